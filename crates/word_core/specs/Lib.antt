@@ -1,0 +1,4 @@
+pub mod Automaton
+pub mod Cube
+pub mod Lasso
+pub mod Machine
