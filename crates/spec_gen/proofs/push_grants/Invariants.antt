@@ -1,0 +1,6 @@
+use Rattle.std.proofs.Common.{◌≡◌, ◌++◌}
+use Rattle.spec_gen.specs.Arbiter.{each, grant}
+use Rattle.spec_gen.proofs.push_grants.Given as goal
+
+abbrev pub invariant-loop-client : goal.invariant-loop-client
+invariant-loop-client l = l.text.items ≡ l.fn.text.items ++ each (grant) l.client
