@@ -1,0 +1,56 @@
+//! Comparisons of vectors.
+
+ghost use Rattle.std.specs.Prelude.{◌≡◌, ◌≢◌, ◌<◌, ◌≤◌, ◌+◌, ◌↔◌, ◌≤ℤ◌, ◌<ℤ◌, ℕ, length, IsTrue, min};
+ghost use Rattle.lane_ops.specs.Lanes.{lane, IsAtOrBelow};
+
+/// How many lanes are compared at once.
+const BLOCK: usize = 16;
+
+/// Whether every lane of `a` is at most that of `b`.
+pub fn le(a: &[i16], b: &[i16]) -> bool
+    requires { length a.now ≡ length b.now }
+    ensures { IsTrue result ↔ IsAtOrBelow a.now b.now }
+{
+    let blocks = a.len() / BLOCK;
+    for block in 0..blocks {
+        if !le_between(a, b, block * BLOCK, block * BLOCK + BLOCK) {
+            return false;
+        }
+    }
+    le_between(a, b, blocks * BLOCK, a.len())
+}
+
+fn le_between(a: &[i16], b: &[i16], from: usize, to: usize) -> bool
+    requires same { length a.now ≡ length b.now }
+    requires ordered { from ≤ to }
+    requires within { to ≤ length a.now }
+    ensures { IsTrue result ↔ ((p : ℕ) → from ≤ p → p < to → lane a.now p ≤ℤ lane b.now p) }
+{
+    let mut all = true;
+    for p in from..to {
+        all &= a[p] <= b[p];
+    }
+    all
+}
+
+/// Whether some lane is above `k`.
+pub fn over(a: &[i16], k: i16) -> bool
+    ensures { IsTrue result ↔ ((p : ℕ) × (p < length a.now) × (k <ℤ lane a.now p)) }
+{
+    a.iter().any(|x| *x > k)
+}
+
+/// The first lane in which they differ, or the length.
+pub fn first_differs(a: &[i16], b: &[i16]) -> usize
+    requires { length a.now ≡ length b.now }
+    ensures within { result ≤ length a.now }
+    ensures before { (p : ℕ) → p < result → lane a.now p ≡ lane b.now p }
+    ensures differs { result < length a.now → lane a.now result ≢ lane b.now result }
+{
+    for p in 0..a.len() {
+        if a[p] != b[p] {
+            return p;
+        }
+    }
+    a.len()
+}
