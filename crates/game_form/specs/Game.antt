@@ -1,5 +1,5 @@
 -- Games over the lanes of an automaton, with sparse rows.
-use Rattle.std.specs.Prelude.{◌≡◌, ℕ, suc, ℤ, pos, negsuc, ◌+◌, ◌*◌, ◌^◌, ◌<◌, ◌≤◌, ◌≤ℤ◌, List, [], ◌∷◌, length, Option, ⊤, All, Bool, true, false, if◌then◌else◌, nat_eq, slice_index_or}
+use Rattle.std.specs.Prelude.{◌≡◌, ℕ, suc, ℤ, pos, ◌+◌, ◌*◌, ◌^◌, ◌<◌, ◌≤◌, ◌≤ℤ◌, List, [], ◌∷◌, length, Option, ⊤, slice_index_or}
 use Rattle.std.specs.Option.{ForSome}
 use Rattle.word_core.specs.declared.names.Kind.{Kind}
 use Rattle.word_core.specs.declared.names.Kind.TheVariants.{First, Second}
@@ -7,7 +7,7 @@ use Rattle.word_core.specs.declared.names.Player.{Player}
 use Rattle.word_core.specs.declared.names.Player.TheVariants.{System, Environment}
 use Rattle.word_core.specs.declared.branches.Branch.{Branch}
 use Rattle.game_form.specs.declared.actions.Step.{Step}
-use Rattle.game_form.specs.Tree.{IsTree, LabelsBelow}
+use Rattle.game_form.specs.Tree.{IsTree, LabelsBelow, label_of}
 
 -- a class: its least valuation of the first mover, and its options, an action with a valuation of the second mover
 pub record ClassData : Type 0 where
@@ -60,6 +60,13 @@ second_width g = of_second g.kind (own_width g) (other_width g)
 -- a letter of two parts as one valuation, the first mover's signals first
 abbrev pub letter_of : GameData → ℕ → ℕ → ℕ
 letter_of g own other = of_first g.kind own other + of_second g.kind own other * 2 ^ first_width g
+
+-- the action of a letter, and the class of a valuation of the first mover
+abbrev pub action_of : GameData → ℕ → ℕ → ℕ
+action_of g own other = label_of g.letters (letter_of g own other)
+
+abbrev pub class_of : GameData → ℕ → ℕ
+class_of g first = label_of g.firsts first
 
 -- the number of lanes, which is the number of rows of each action
 abbrev pub lanes_of : List (List (List Step)) → ℕ

@@ -1,2 +1,4 @@
 pub mod Game
+pub mod Predecessor
 pub mod Tree
+pub mod Vector
