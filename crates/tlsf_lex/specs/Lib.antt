@@ -1,0 +1,4 @@
+pub mod Bytes
+pub mod StepBounds
+pub mod Steps
+pub mod Tokens
