@@ -1,4 +1,8 @@
 pub mod Automaton
 pub mod Cube
+pub mod Gap
 pub mod Lasso
 pub mod Machine
+pub mod Play
+pub mod Run
+pub mod Tree

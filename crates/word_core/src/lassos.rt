@@ -1,6 +1,6 @@
 //! Ultimately periodic words.
 
-ghost use Rattle.std.specs.Prelude.{◌≡◌, ◌<◌, ◌+◌, ◌↔◌, IsNone, IfSome, [], length};
+ghost use Rattle.std.specs.Prelude.{◌≡◌, ◌<◌, ◌+◌, ◌↔◌, IsNone, IfSome, Some, [], length};
 
 use crate::cubes::Letter;
 use std::marker::Model;
@@ -13,7 +13,7 @@ pub struct Lasso {
 }
 
 impl Model for Lasso {
-    ghost use Rattle.std.specs.Prelude.{◌+◌, ◌^◌, ◌<◌, length};
+    ghost use Rattle.std.specs.Prelude.{◌<◌, length};
     ghost use Rattle.word_core.specs.Lasso.{LassoData};
 
     ghost Value = { LassoData };
@@ -50,5 +50,25 @@ impl Lasso {
         ensures some { 0 < length self.now.cycle }
     {
         &self.cycle
+    }
+
+    /// The number of positions: the letters of stem and cycle together, at least one.
+    pub fn len(&self) -> usize
+        ensures value { result ≡ size self.now }
+        ensures some { 0 < result }
+    {
+        self.stem.len() + self.cycle.len()
+    }
+
+    /// The letter at a position, which is below `len`.
+    pub fn at(&self, p: usize) -> Letter
+        requires { p < size self.now }
+        ensures { letter_at self.now p ≡ Some result }
+    {
+        if p < self.stem.len() {
+            self.stem[p]
+        } else {
+            self.cycle[p - self.stem.len()]
+        }
     }
 }

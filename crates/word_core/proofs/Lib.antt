@@ -1,0 +1,6 @@
+pub mod BitLaws
+pub mod CubeHalves
+pub mod GapHalves
+pub mod LassoLetters
+pub mod StateLists
+pub mod TreeLabels
