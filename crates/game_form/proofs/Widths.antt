@@ -4,14 +4,14 @@ use Rattle.std.proofs.lemmas.Nat.{mul-add-lt, pow-add, shl_whole}
 use Rattle.std.proofs.Math.Nat.{pow-le-pow_right, add_comm}
 use Rattle.word_core.specs.declared.names.Player.{Player}
 use Rattle.word_core.specs.declared.names.Player.TheVariants.{System, Environment}
-use Rattle.game_form.specs.Game.{own_signals, other_signals}
+use Rattle.word_core.specs.Machine.{own_width, other_width}
 
 -- a letter of parts within their widths is within the sum of the widths
 pub parts_below : (low a high b : ℕ) → low < 2 ^ a → high < 2 ^ b → low + high * 2 ^ a < 2 ^ (a + b)
 parts_below low a high b low_in high_in =
     omega (arith, mul-add-lt high (2 ^ a) low (2 ^ b) high_in low_in, pow-add 2 a b)
 
-pub widths_sum : (p : Player) (i o : ℕ) → own_signals p i o + other_signals p i o ≡ i + o
+pub widths_sum : (p : Player) (i o : ℕ) → own_width p i o + other_width p i o ≡ i + o
 widths_sum System i o = add_comm o i
 widths_sum Environment i o = refl
 

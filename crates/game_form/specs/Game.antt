@@ -4,10 +4,11 @@ use Rattle.std.specs.Option.{ForSome}
 use Rattle.word_core.specs.declared.names.Kind.{Kind}
 use Rattle.word_core.specs.declared.names.Kind.TheVariants.{First, Second}
 use Rattle.word_core.specs.declared.names.Player.{Player}
-use Rattle.word_core.specs.declared.names.Player.TheVariants.{System, Environment}
 use Rattle.word_core.specs.declared.branches.Branch.{Branch}
 use Rattle.game_form.specs.declared.actions.Step.{Step}
-use Rattle.game_form.specs.Tree.{IsTree, LabelsBelow, label_of}
+use Rattle.word_core.specs.Machine as machine
+use Rattle.word_core.specs.Tree.{label_of}
+use Rattle.game_form.specs.Tree.{IsTreeOver}
 
 -- a class: its least valuation of the first mover, and its options, an action with a valuation of the second mover
 pub record ClassData : Type 0 where
@@ -26,15 +27,6 @@ pub record GameData : Type 0 where
   pub letters : List Branch
   pub firsts : List Branch
 
--- the number of the player's own signals: the outputs for the system, the inputs for the environment
-abbrev pub own_signals : Player → ℕ → ℕ → ℕ
-own_signals System inputs outputs = outputs
-own_signals Environment inputs outputs = inputs
-
-abbrev pub other_signals : Player → ℕ → ℕ → ℕ
-other_signals System inputs outputs = inputs
-other_signals Environment inputs outputs = outputs
-
 -- what belongs to the side that moves first: the player's under First, the other's under Second
 abbrev pub of_first : {X : Type 0} → Kind → X → X → X
 of_first First own other = own
@@ -44,11 +36,12 @@ abbrev pub of_second : {X : Type 0} → Kind → X → X → X
 of_second First own other = other
 of_second Second own other = own
 
+-- the number of the player's own signals, and of the other's
 abbrev pub own_width : GameData → ℕ
-own_width g = own_signals g.player g.inputs g.outputs
+own_width g = machine.own_width g.player g.inputs g.outputs
 
 abbrev pub other_width : GameData → ℕ
-other_width g = other_signals g.player g.inputs g.outputs
+other_width g = machine.other_width g.player g.inputs g.outputs
 
 -- the number of signals of the side that moves first, and of the side that moves second
 abbrev pub first_width : GameData → ℕ
@@ -119,7 +112,5 @@ pub record IsGame (g : GameData) : Type 0 where
   pub actions : (a : ℕ) → a < length g.actions → IsAction (lanes g) (action_at g a)
   pub init : ForSome g.init (λ q. q < lanes g)
   pub classes : (c : ℕ) → c < length g.classes → IsClass g (class_at g c)
-  pub letters : IsTree (g.inputs + g.outputs) g.letters
-  pub letter_labels : LabelsBelow (length g.actions) g.letters
-  pub firsts : IsTree (first_width g) g.firsts
-  pub first_labels : LabelsBelow (length g.classes) g.firsts
+  pub letters : IsTreeOver (g.inputs + g.outputs) (length g.actions) g.letters
+  pub firsts : IsTreeOver (first_width g) (length g.classes) g.firsts

@@ -1,4 +1,5 @@
 pub mod Game
+pub mod Held
 pub mod Predecessor
 pub mod Tree
 pub mod Vector

@@ -55,7 +55,7 @@ impl Model for Game {
 }
 
 impl Game {
-    ghost use Rattle.game_form.specs.Game.{IsGame, IsAction, IsClass, IsRow, lanes, action_at, class_at, row_at, no_class, first_width, second_width, own_width, other_width, letter_of};
+    ghost use Rattle.game_form.specs.Game.{IsGame, IsAction, IsClass, IsRow, lanes, action_at, class_at, row_at, no_class, first_width, second_width, own_width, other_width, letter_of, action_of, class_of};
 
     /// The game of these parts.
     pub fn make(
@@ -300,6 +300,8 @@ impl Game {
     pub fn action_of(&self, own: u64, other: u64) -> u64
         requires own { own < 2 ^ own_width self.now }
         requires other { other < 2 ^ other_width self.now }
+        ensures value { result ≡ action_of self.now own other }
+        ensures known { result < length self.now.actions }
     {
         walk(&self.letters, self.letter(own, other))
     }
@@ -321,6 +323,8 @@ impl Game {
     /// The class of a valuation of the first mover.
     pub fn class_of(&self, first: u64) -> u64
         requires { first < 2 ^ first_width self.now }
+        ensures value { result ≡ class_of self.now first }
+        ensures known { result < length self.now.classes }
     {
         walk(&self.firsts, first)
     }
