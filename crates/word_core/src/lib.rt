@@ -16,7 +16,7 @@ pub use branches::{Branch, walk};
 pub use cubes::{Cube, Letter, fits};
 pub use gaps::least_gap;
 pub use lassos::Lasso;
-pub use machines::{Line, Machine, MachineFault, widths};
+pub use machines::{Line, Machine, MachineFault, first_with_gap, widths};
 pub use names::{Kind, Names, Player, Target};
 
 #[cfg(test)]

@@ -212,8 +212,9 @@ fn lines_fit(lines: &[Line], own: u32, others: u32, count: u64) -> bool
     true
 }
 
-/// The least state in which some valuation of the other is held by no line.
-fn first_with_gap(states: &[Vec<Line>], others: u32) -> Option<u64>
+/// The least of these states in which some valuation of the other, over so many signals, is held by
+/// no line.
+pub fn first_with_gap(states: &[Vec<Line>], others: u32) -> Option<u64>
     requires others_in { others ≤ 64 }
     requires ranged { All (All (λ l. IsCube others l.when)) (map (λ lines. lines.items) states.now) }
     ensures { MatchOption result

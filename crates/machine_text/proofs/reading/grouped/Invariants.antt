@@ -1,0 +1,14 @@
+use Rattle.std.proofs.Common.{◌-◌, ◌≤◌, map, length}
+use Rattle.std.specs.List.{All}
+use Rattle.word_core.specs.Machine.{IsLine}
+use Rattle.machine_text.proofs.reading.grouped.Given as goal
+
+abbrev pub invariant-loop-at : goal.invariant-loop-at
+invariant-loop-at l = record {
+  within : l.at ≤ length l.entries;
+  few : length l.states.items ≤ l.count;
+  ranged : All (All (IsLine l.own l.others l.count)) (map (λ lines. lines.items) l.states.items);
+}
+
+abbrev pub decreases-loop-at : goal.decreases-loop-at
+decreases-loop-at l = length l.entries - l.at

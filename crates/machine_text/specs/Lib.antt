@@ -1,0 +1,5 @@
+pub mod Fields
+pub mod Lassos
+pub mod Lines
+pub mod Machines
+pub mod Reading
