@@ -1,1 +1,2 @@
 pub mod Antichain
+pub mod Covering

@@ -38,6 +38,30 @@ impl<E: Entry> ListDownset<E> {
         }
     }
 
+    /// The entries in order.
+    pub fn entries(&self) -> &[E]
+        ensures value { result.now ≡ self.now }
+        ensures antichain { IsAntichain E.below E.order self.now }
+    {
+        &self.entries
+    }
+
+    /// The list of the entries.
+    pub fn into_entries(self) -> Vec<E>
+        ensures value { result.items ≡ self }
+        ensures antichain { IsAntichain E.below E.order self }
+    {
+        self.entries
+    }
+
+    /// The set of these entries.
+    pub fn from_entries(entries: Vec<E>) -> ListDownset<E>
+        requires { IsAntichain E.below E.order entries.items }
+        ensures { result ≡ entries.items }
+    {
+        ListDownset { entries }
+    }
+
     /// An equal list.
     pub fn copy(&self, alloc: Global) -> Result<ListDownset<E>, AllocError>
         ensures { IfOk result (λ d. d ≡ self.now) }

@@ -1,2 +1,3 @@
 pub mod Along
 pub mod Vectors
+pub mod Galois

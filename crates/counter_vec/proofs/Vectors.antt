@@ -9,13 +9,13 @@ use Rattle.std.proofs.lemmas.List.FromFn.{fill_by_all}
 use Rattle.std.specs.Ordering.{int_cmp, nat_cmp, ordering_then}
 use Rattle.std.specs.declared.cmp.Ordering.{Ordering}
 use Rattle.std.specs.declared.cmp.Ordering.TheVariants.{Less, Equal, Greater}
-use Rattle.std.specs.Int.{int_max}
+use Rattle.std.specs.Int.{int_max, int_min}
 use Rattle.game_form.specs.declared.actions.Step.{Step}
 use Rattle.game_form.specs.Game.{row_at}
 use Rattle.game_form.specs.Vector.{lane, vector, begins, arrived, allowed, allowed_for, number}
 use Rattle.lane_ops.specs.Lanes as ops
 use Rattle.lane_ops.specs.Lanes.{IsAtOrBelow}
-use Rattle.counter_vec.specs.Counters.{at_or_below, lexicographic, AreCounters}
+use Rattle.counter_vec.specs.Counters.{at_or_below, lexicographic, met, AreCounters}
 
 pub vector_of : (f : ℕ → ℤ) (v : List ℤ) (n : ℕ) → length v ≡ n → ((p : ℕ) → p < n → lane v p ≡ f p) → v ≡ vector n f
 vector_of f v n h each = fill_by_all f v n (pos 0) h each
@@ -186,3 +186,13 @@ allowed_low k row p (x ∷ v) = omega (arith, ints, clamps, allowed_low k row (s
 pub lowered_low : (k : ℕ) (rows : List (List Step)) (new old v : List ℤ) (len : ℕ) → length new ≡ len
     → ((q : ℕ) → q < length new → lane new q ≡ allowed k (row_at rows q) 0 v) → AreCounters (take len (new ++ drop (length new) old))
 lowered_low k rows new old v len e each = subst AreCounters (sym (whole len new old e)) (λ q lt. rw (each q lt) (allowed_low k (row_at rows q) 0 v))
+
+pub met_of : (u v w : List ℤ) → length w ≡ length u → length u ≡ length v → ((p : ℕ) → p < length w → lane w p ≡ int_min (lane u p) (lane v p)) → w ≡ met u v
+met_of [] v [] e f each = refl
+met_of [] v (z ∷ w) e f each = absurd (omega arith)
+met_of (x ∷ u) v [] e f each = absurd (omega arith)
+met_of (x ∷ u) [] (z ∷ w) e f each = absurd (omega arith)
+met_of (x ∷ u) (y ∷ v) (z ∷ w) e f each =
+    let first : z ≡ int_min x y = each 0 (omega arith) in
+    let rest : w ≡ met u v = met_of u v w (omega arith) (omega arith) (λ p lt. each (suc p) (omega arith)) in
+    cc

@@ -1,5 +1,6 @@
 -- Vectors of counters: their partial order lane by lane, and their lexicographic order.
 use Rattle.std.specs.Prelude.{ℕ, ℤ, negsuc, ◌<◌, ◌≤ℤ◌, Bool, true, false, ◌&&◌, List, [], ◌∷◌, length, int_le}
+use Rattle.std.specs.Int.{int_min}
 use Rattle.std.specs.Ordering.{int_cmp}
 use Rattle.std.specs.Cmp.Lexicographic.{slice_cmp}
 use Rattle.std.specs.declared.cmp.Ordering.{Ordering}
@@ -15,6 +16,12 @@ at_or_below (x ∷ u) (y ∷ v) = int_le x y && at_or_below u v
 -- lane by lane from the front; a vector comes before each longer one that it begins
 abbrev pub lexicographic : List ℤ → List ℤ → Ordering
 lexicographic u v = slice_cmp int_cmp u v
+
+-- the smaller number of each lane
+abbrev pub met : List ℤ → List ℤ → List ℤ
+met [] v = []
+met (x ∷ u) [] = []
+met (x ∷ u) (y ∷ v) = int_min x y ∷ met u v
 
 -- each number is at least -1
 abbrev pub AreCounters : List ℤ → Type 0

@@ -29,7 +29,7 @@ impl Model for Counters {
 }
 
 impl Counters {
-    ghost use Rattle.counter_vec.specs.Counters.{AreCounters, lexicographic};
+    ghost use Rattle.counter_vec.specs.Counters.{AreCounters, lexicographic, met};
     ghost use Rattle.game_form.specs.Vector.{IsVector, lane, top, initial, successor, predecessor};
     ghost use Rattle.game_form.specs.Game.{lanes};
 
@@ -103,8 +103,7 @@ impl Counters {
     /// The smaller number of each lane.
     pub fn meet(&self, alloc: Global, other: &Counters) -> Result<Counters, AllocError>
         requires { length self.now ≡ length other.now }
-        ensures length { IfOk result (λ v. length v ≡ length self.now) }
-        ensures lanes { IfOk result (λ v. (p : ℕ) → p < length v → lane v p ≡ int_min (lane self.now p) (lane other.now p)) }
+        ensures { IfOk result (λ v. v ≡ met self.now other.now) }
     {
         let mut lanes = vec![in alloc; -1; self.lanes.len()]?;
         meet_into(&self.lanes, &other.lanes, &mut lanes);
