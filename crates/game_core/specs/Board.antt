@@ -1,0 +1,68 @@
+-- Boards, jobs and outcomes as values.
+use Rattle.std.specs.Prelude.{◌≡◌, ℕ, zero, suc, ℤ, ◌+◌, ◌<◌, ◌%◌, Bool, true, false, List, [], ◌∷◌, length, Option, Some, None, slice_index_or}
+use Rattle.std.specs.List.{Contains}
+use Rattle.game_form.specs.Game.{GameData}
+use Rattle.game_form.specs.Vector.{IsVector}
+use Rattle.cpre_step.specs.Refinement.{AreVectors, AreLeft, answers}
+
+-- a game, the list of its entries, and whether each is fresh
+pub record BoardData : Type 0 where
+  pub game : GameData
+  pub list : List (List ℤ)
+  pub marks : List Bool
+
+abbrev pub entry_at : List (List ℤ) → ℕ → List ℤ
+entry_at list i = slice_index_or list i []
+
+abbrev pub mark_at : List Bool → ℕ → Bool
+mark_at marks i = slice_index_or marks i false
+
+-- the entries are vectors of the game, and from a fresh one the player can stay in the list
+pub record IsBoard (b : BoardData) : Type 0 where
+  pub vectors : AreVectors b.game b.list
+  pub marks : length b.marks ≡ length b.list
+  pub fresh : (i : ℕ) → i < length b.list → mark_at b.marks i ≡ true → answers b.game b.list (entry_at b.list i) ≡ true
+
+-- how many entries aren't fresh
+abbrev pub open_count : List Bool → ℕ
+open_count [] = 0
+open_count (true ∷ marks) = open_count marks
+open_count (false ∷ marks) = suc (open_count marks)
+
+-- the place of the entry number n among those that aren't fresh
+abbrev pub open_place : List Bool → ℕ → ℕ
+open_place [] n = 0
+open_place (true ∷ marks) n = suc (open_place marks n)
+open_place (false ∷ marks) zero = 0
+open_place (false ∷ marks) (suc n) = suc (open_place marks n)
+
+-- an entry of a list, to be looked at
+pub record JobData : Type 0 where
+  pub game : GameData
+  pub snapshot : List (List ℤ)
+  pub entry : List ℤ
+
+pub record IsJob (j : JobData) : Type 0 where
+  pub vectors : AreVectors j.game j.snapshot
+  pub vector : IsVector j.game j.entry
+  pub taken : Contains j.snapshot j.entry
+
+-- the job of a board for a number
+abbrev pub job_of : BoardData → ℕ → JobData
+job_of b number = record { game = b.game; snapshot = b.list; entry = entry_at b.list (open_place b.marks number) }
+
+-- a job with what its entry became: none where it was kept, and else what is left
+pub record OutcomeData : Type 0 where
+  pub game : GameData
+  pub snapshot : List (List ℤ)
+  pub entry : List ℤ
+  pub left : Option (List (List ℤ))
+
+abbrev pub IsLeft : GameData → List (List ℤ) → List ℤ → Option (List (List ℤ)) → Type 0
+IsLeft g snapshot entry None = answers g snapshot entry ≡ true
+IsLeft g snapshot entry (Some left) = (answers g snapshot entry ≡ false) × AreLeft g snapshot entry left
+
+pub record IsOutcome (o : OutcomeData) : Type 0 where
+  pub vectors : AreVectors o.game o.snapshot
+  pub vector : IsVector o.game o.entry
+  pub refined : IsLeft o.game o.snapshot o.entry o.left

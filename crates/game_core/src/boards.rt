@@ -1,0 +1,106 @@
+//! The board: the list of what is still possible, with marks.
+
+ghost use Rattle.std.specs.Prelude.{◌≡◌, ◌<◌, ◌%◌, ◌∷◌, [], false, IfOk, length, MatchOption};
+ghost use Rattle.game_form.specs.Vector.{top};
+
+use crate::jobs::{Job, Outcome};
+use crate::marks::{count_open, find_open};
+use antichain_list::{Downset, ListDownset};
+use counter_vec::Counters;
+use game_form::Game;
+use std::alloc::{AllocError, Global};
+use std::marker::Model;
+use std::sync::Arc;
+
+/// A game, an ascending antichain at or above all that can be held, and one mark per entry.
+#[derive(Drop)]
+pub struct Board {
+    game: Arc<Game>,
+    list: Arc<ListDownset<Counters>>,
+    marks: Vec<bool>,
+}
+
+/// What a commit did.
+#[derive(Debug, Clone, Copy, PartialEq, Eq)]
+pub enum Committed {
+    /// The entry stays, and is fresh.
+    Fresh,
+    /// The entry made way for what is left of it.
+    Replaced,
+    /// The list has changed since the job was made.
+    Stale,
+    /// The entry isn't in the list any more.
+    Gone,
+    /// The outcome is one of another game.
+    Other,
+}
+
+impl Model for Board {
+    ghost use Rattle.game_core.specs.Board.{BoardData, IsBoard};
+
+    ghost Value = { BoardData };
+
+    ghost view = { λ b. record { game = b.game.value; list = b.list.value; marks = b.marks.items } };
+
+    ghost invariant = { λ b. IsBoard (record { game = b.game.value; list = b.list.value; marks = b.marks.items }) };
+}
+
+impl Board {
+    ghost use Rattle.game_core.specs.Board.{IsBoard, open_count, job_of, mark_at};
+
+    /// The board with the top vector alone, not fresh.
+    pub fn open(alloc: Global, g: Arc<Game>) -> Result<Board, AllocError>
+        ensures { IfOk result (λ b. b ≡ record { game = g.value; list = top g.value ∷ []; marks = false ∷ [] }) }
+    {
+        g.known();
+        let top = Counters::top(alloc, &g)?;
+        let list = ListDownset::from_entries(vec![in alloc; top]?);
+        let marks = vec![in alloc; false]?;
+        let list = Arc::new(alloc, list)?;
+        Ok(Board {
+            game: g,
+            list,
+            marks,
+        })
+    }
+
+    /// The game.
+    pub fn game(&self) -> &Game
+        ensures { result.now ≡ self.now.game }
+    {
+        &self.game
+    }
+
+    /// The entries in order.
+    pub fn entries(&self) -> &ListDownset<Counters>
+        ensures { result.now ≡ self.now.list }
+    {
+        &self.list
+    }
+
+    /// Whether an entry is fresh.
+    pub fn fresh(&self, i: usize) -> bool
+        requires { i < length self.now.list }
+        ensures { result ≡ mark_at self.now.marks i }
+    {
+        self.marks[i]
+    }
+
+    /// A job for the entry at place `number` among those that aren't fresh, round and round. None exactly where
+    /// every entry is fresh.
+    pub fn claim(&self, alloc: Global, number: u64) -> Result<Option<Job>, AllocError>
+        ensures { IfOk result (λ o. MatchOption o (open_count self.now.marks ≡ 0) (λ j. (0 < open_count self.now.marks) × (j ≡ job_of self.now (number % open_count self.now.marks)))) }
+    {
+        let open = count_open(&self.marks);
+        if open == 0 {
+            return Ok(None);
+        }
+        let place = find_open(&self.marks, (number % open as u64) as usize);
+        let entry = self.list.entry(place).copy(alloc)?;
+        Ok(Some(Job {
+            game: Arc::try_clone(&self.game)?,
+            snapshot: Arc::try_clone(&self.list)?,
+            entry,
+        }))
+    }
+}
