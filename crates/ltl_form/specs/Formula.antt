@@ -1,5 +1,5 @@
 -- Formulas as they are written.
-use Rattle.std.specs.Prelude.{ℕ, Bool, true, ◌&&◌, List, [], ◌∷◌, nat_lt}
+use Rattle.std.specs.Prelude.{ℕ, Bool, true, ◌&&◌, List, [], ◌∷◌, nat_lt, map}
 use Rattle.ltl_form.specs.declared.formulas.Ltl.{Ltl, fold-Ltl}
 use Rattle.ltl_form.specs.declared.formulas.Ltl.TheOpen.{Ltl-F}
 
@@ -27,3 +27,6 @@ signals_below_step n (Ltl-F.Weak f g) = f && g
 -- each signal of the formula is below n
 abbrev pub signals_below : ℕ → Ltl → Bool
 signals_below n = fold-Ltl Bool (signals_below_step n)
+
+abbrev pub all_below : ℕ → List Ltl → Bool
+all_below n fs = all_true (map (signals_below n) fs)

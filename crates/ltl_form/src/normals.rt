@@ -1,11 +1,14 @@
 //! The normal form: negations at signals alone, constants folded, equal formulas numbered once.
 
-ghost use Rattle.std.specs.Prelude.{◌≡◌, ◌<◌, ◌≤◌, ◌+◌, length, true, IfOk, ℕ};
+ghost use Rattle.std.specs.Prelude.{if◌then◌else◌, ◌≡◌, ◌<◌, ◌≤◌, ◌+◌, length, true, IfOk, ℕ};
 ghost use Rattle.ltl_form.specs.Formula.{signals_below};
 ghost use Rattle.ltl_form.specs.Normal.{IsNormal, LiteralsBelow};
 ghost use Rattle.ltl_form.specs.declared.normals.FormError.TheVariants.{Memory};
 
+use crate::forms::{Forms, Pair};
 use crate::formulas::Ltl;
+use crate::numberings::Numbering;
+use crate::pairs::pair_of;
 use std::alloc::{AllocError, AllocFailed, Global};
 use std::marker::Model;
 use thiserror::Error;
@@ -92,5 +95,25 @@ pub fn nnf(alloc: Global, f: &Ltl, positive: bool) -> Result<Normal, FormError>
     requires { signals_below 64 f.now ≡ true }
     ensures literals { (n : ℕ) → signals_below n f.now ≡ true → IfOk result (λ normal. LiteralsBelow n normal.nodes) }
 {
-    Err(FormError::Memory)
+    let mut forms = Forms::new(alloc);
+    let pair = pair_of(&mut forms, f)?;
+    let place = chosen(pair, positive);
+    let forms = forms.as_slice();
+    let mut numbering = Numbering::new(alloc, forms.len())?;
+    let root = numbering.new_number(forms, place, 0)?;
+    Ok(Normal {
+        nodes: numbering.into_nodes(),
+        root,
+    })
+}
+
+/// The place of the formula, or of its negation.
+fn chosen(pair: Pair, positive: bool) -> usize
+    ensures { result ≡ (if positive then pair.positive else pair.negative) }
+{
+    if positive {
+        pair.positive
+    } else {
+        pair.negative
+    }
 }

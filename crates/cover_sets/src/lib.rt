@@ -1,0 +1,16 @@
+//! Covers: what a letter and the next position must meet so that a set of formulas holds now.
+#![tactic(auto)]
+
+mod bit_covers;
+mod covers;
+mod number_sets;
+mod reductions;
+mod tables;
+
+pub use bit_covers::BitCover;
+pub use covers::{Cover, CoverError, covers};
+pub use number_sets::NumberSet;
+pub use tables::CoverTable;
+
+#[cfg(test)]
+mod tests;

@@ -1,0 +1,4 @@
+pub mod Below
+pub mod Chains
+pub mod Signals
+pub mod Trees

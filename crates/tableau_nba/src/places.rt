@@ -1,0 +1,40 @@
+//! The states of a tableau: sets of formulas, with levels.
+
+use cover_sets::{BitCover, NumberSet};
+
+/// A set of formulas that hold from here on, and how many untils in a row were met since the last mark.
+#[derive(Debug, Clone, Copy, PartialEq, Eq, Hash)]
+pub struct Place {
+    pub set: NumberSet,
+    pub level: u32,
+}
+
+/// Where an edge leads, and whether it is marked.
+#[derive(Debug, Clone, Copy)]
+pub struct Step {
+    pub to: Place,
+    pub marked: bool,
+}
+
+/// The step from a level by a cover, where `untils` are the numbers of the untils, ascending.
+///
+/// The level rises as long as the next until isn't put off. Past the last one it is 0 again, and the edge is marked.
+pub fn step(untils: &[u32], level: u32, cover: &BitCover) -> Step {
+    let reached = risen(untils, level, cover);
+    let marked = reached as usize == untils.len();
+    let level = if marked { 0 } else { reached };
+    Step {
+        to: Place { set: cover.next, level },
+        marked,
+    }
+}
+
+/// The level up to which the untils are met.
+fn risen(untils: &[u32], level: u32, cover: &BitCover) -> u32 {
+    for at in level as usize..untils.len() {
+        if cover.postponed.contains(untils[at]) {
+            return at as u32;
+        }
+    }
+    untils.len() as u32
+}
