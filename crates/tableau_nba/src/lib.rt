@@ -1,7 +1,8 @@
 //! The automaton of a formula, which accepts the lassos on which the formula holds.
 #![tactic(auto)]
 
-mod edges;
+mod cubes;
+mod lists;
 mod places;
 mod tableaux;
 

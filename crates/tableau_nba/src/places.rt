@@ -1,6 +1,8 @@
 //! The states of a tableau: sets of formulas, with levels.
 
 use cover_sets::{BitCover, NumberSet};
+use ltl_form::Node;
+use std::alloc::{AllocError, Global};
 
 /// A set of formulas that hold from here on, and how many untils in a row were met since the last mark.
 #[derive(Debug, Clone, Copy, PartialEq, Eq, Hash)]
@@ -19,12 +21,15 @@ pub struct Step {
 /// The step from a level by a cover, where `untils` are the numbers of the untils, ascending.
 ///
 /// The level rises as long as the next until isn't put off. Past the last one it is 0 again, and the edge is marked.
-pub fn step(untils: &[u32], level: u32, cover: &BitCover) -> Step {
+pub fn step_from(untils: &[u32], level: u32, cover: &BitCover) -> Step {
     let reached = risen(untils, level, cover);
     let marked = reached as usize == untils.len();
     let level = if marked { 0 } else { reached };
     Step {
-        to: Place { set: cover.next, level },
+        to: Place {
+            set: cover.next,
+            level,
+        },
         marked,
     }
 }
@@ -37,4 +42,15 @@ fn risen(untils: &[u32], level: u32, cover: &BitCover) -> u32 {
         }
     }
     untils.len() as u32
+}
+
+/// The untils among the formulas, ascending.
+pub fn untils_of(alloc: Global, nodes: &[Node]) -> Result<Vec<u32>, AllocError> {
+    let mut untils = Vec::new(alloc);
+    for (n, node) in nodes.iter().enumerate() {
+        if let Node::Until(_, _) = *node {
+            untils.push(n as u32)?;
+        }
+    }
+    Ok(untils)
 }

@@ -1,16 +1,18 @@
 //! The breadth-first walk from the whole formula.
 
+ghost use Rattle.std.specs.Prelude.{◌≡◌, ◌<◌, ◌≤◌, ◌+◌, length, All, IfOk};
+ghost use Rattle.ltl_form.specs.Normal.{LiteralsBelow};
 ghost use Rattle.tableau_nba.specs.declared.tableaux.TableauError.TheVariants.{Memory};
 
+use crate::cubes::{Literal, cube_of, literals_of};
+use crate::lists::Lists;
+use crate::places::{Place, step_from, untils_of};
 use cover_sets::{BitCover, CoverError, CoverTable, NumberSet};
-use indexmap::{IndexMap, IndexSet};
+use indexmap::IndexSet;
 use ltl_form::Normal;
 use std::alloc::{AllocError, AllocFailed, Global};
 use thiserror::Error;
 use word_core::{Automaton, Edge, State};
-
-use crate::edges::{Literal, cube_of, literals_of, untils_of};
-use crate::places::{Place, step};
 
 /// The most states of a tableau.
 const MOST: usize = 4096;
@@ -45,6 +47,8 @@ impl<T: Drop> From<AllocFailed<T>> for TableauError {
 }
 
 impl From<CoverError> for TableauError {
+    ghost from_gives = { λ _ _. Unit {0} };
+
     fn from(e: CoverError) -> TableauError {
         match e {
             CoverError::TooWide => TableauError::TooWide,
@@ -57,15 +61,17 @@ impl From<CoverError> for TableauError {
 ///
 /// The literals of `f` are below `signals`, which is at most 64. TooWide and TooManyStates come exactly where the
 /// breadth-first walk meets a list of more than 1,024 covers, or a 4,097th state.
-pub fn tableau(alloc: Global, f: &Normal, signals: u32) -> Result<Automaton, TableauError> {
+pub fn tableau(alloc: Global, f: &Normal, signals: u32) -> Result<Automaton, TableauError>
+    requires literals { LiteralsBelow signals f.now.nodes }
+    requires signals { signals ≤ 64 }
+    ensures { IfOk result (λ a. a.signals ≡ signals) }
+{
     let walk = Walk {
         table: CoverTable::new(alloc, f)?,
         literals: literals_of(alloc, f.nodes())?,
         untils: untils_of(alloc, f.nodes())?,
     };
-    let mut lists = IndexMap::new(alloc);
-    let places = walk.places(alloc, f.root(), &mut lists)?;
-    let states = walk.states(alloc, &places, &lists)?;
+    let states = walk.states(alloc, f.root())?;
     match Automaton::make(signals, states, Some(0)) {
         Some(automaton) => Ok(automaton),
         None => unreachable!(),
@@ -81,91 +87,50 @@ struct Walk {
 }
 
 impl Walk {
-    /// The places in the order in which they are met, and the covers of their sets.
-    fn places(
-        &self,
-        alloc: Global,
-        root: u32,
-        lists: &mut IndexMap<NumberSet, Vec<BitCover>>,
-    ) -> Result<IndexSet<Place>, TableauError> {
+    /// The states in the order in which they are met, from the one where the root alone holds.
+    fn states(&self, alloc: Global, root: u32) -> Result<Vec<State>, TableauError>
+        requires { root < 512 }
+    {
         let mut places = IndexSet::new(alloc);
         places.insert(Place {
             set: NumberSet::EMPTY.with(root),
             level: 0,
         })?;
+        let mut lists = Lists::new(alloc);
+        let mut states = Vec::new(alloc);
         for at in 0..MOST {
-            let Some(place) = places.get_index(at) else { break };
+            let Some(place) = places.get_index(at) else {
+                break
+            };
             let place = *place;
-            self.list(alloc, &place.set, lists)?;
-            if let Some(list) = lists.get(&place.set) {
-                self.add_targets(place.level, list, &mut places)?;
-            }
-        }
-        Ok(places)
-    }
-
-    /// Puts the covers of the set into the table of lists.
-    fn list(
-        &self,
-        alloc: Global,
-        set: &NumberSet,
-        lists: &mut IndexMap<NumberSet, Vec<BitCover>>,
-    ) -> Result<(), TableauError> {
-        if !lists.contains_key(set) {
-            let list = self.table.of_set(alloc, set)?;
-            lists.insert(*set, list)?;
-        }
-        Ok(())
-    }
-
-    /// Adds the places to which the covers lead from a level.
-    fn add_targets(&self, level: u32, list: &[BitCover], places: &mut IndexSet<Place>) -> Result<(), TableauError> {
-        for cover in list {
-            let target = step(&self.untils, level, cover).to;
-            let (at, _) = places.insert_full(target)?;
-            if at == MOST {
-                return Err(TableauError::TooManyStates);
-            }
-        }
-        Ok(())
-    }
-
-    /// The states of the places, in their order.
-    fn states(
-        &self,
-        alloc: Global,
-        places: &IndexSet<Place>,
-        lists: &IndexMap<NumberSet, Vec<BitCover>>,
-    ) -> Result<Vec<State>, AllocError> {
-        let mut states = Vec::with_capacity(alloc, places.len())?;
-        for place in places.as_slice() {
-            if let Some(list) = lists.get(&place.set) {
-                let edges = self.edges(alloc, place.level, list, places)?;
-                states.push(State { edges })?;
-            }
+            let list = lists.place_of(alloc, &self.table, &place.set)?;
+            let edges = self.edges(alloc, place.level, lists.at(list), &mut places)?;
+            states.push(State { edges })?;
         }
         Ok(states)
     }
 
-    /// The different edges from a level, in the order of the covers.
+    /// The different edges from a level, in the order of the covers. The places to which they lead get numbers.
     fn edges(
         &self,
         alloc: Global,
         level: u32,
         list: &[BitCover],
-        places: &IndexSet<Place>,
-    ) -> Result<Vec<Edge>, AllocError> {
+        places: &mut IndexSet<Place>,
+    ) -> Result<Vec<Edge>, TableauError> {
         let mut edges = IndexSet::new(alloc);
         for cover in list {
-            let step = step(&self.untils, level, cover);
-            if let Some(next) = places.get_index_of(&step.to) {
-                edges.insert(Edge {
-                    cube: cube_of(&self.literals, &cover.literals),
-                    next: next as u32,
-                    marked: step.marked,
-                })?;
+            let step = step_from(&self.untils, level, cover);
+            let (next, _) = places.insert_full(step.to)?;
+            if next >= MOST {
+                return Err(TableauError::TooManyStates);
             }
+            edges.insert(Edge {
+                cube: cube_of(&self.literals, &cover.literals),
+                next: next as u32,
+                marked: step.marked,
+            })?;
         }
-        Vec::from_slice(alloc, edges.as_slice())
+        Ok(Vec::from_slice(alloc, edges.as_slice())?)
     }
 }

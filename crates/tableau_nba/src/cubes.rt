@@ -1,5 +1,7 @@
 //! The cubes of literals.
 
+ghost use Rattle.std.specs.Prelude.{◌≡◌, ◌<◌, ◌≤◌, length, All, IfOk};
+
 use cover_sets::NumberSet;
 use ltl_form::Node;
 use std::alloc::{AllocError, Global};
@@ -18,21 +20,14 @@ pub fn literals_of(alloc: Global, nodes: &[Node]) -> Result<Vec<Literal>, AllocE
     let mut literals = Vec::new(alloc);
     for (n, node) in nodes.iter().enumerate() {
         if let Node::Lit { signal, positive } = *node {
-            literals.push(Literal { number: n as u32, signal, positive })?;
+            literals.push(Literal {
+                number: n as u32,
+                signal,
+                positive,
+            })?;
         }
     }
     Ok(literals)
-}
-
-/// The untils among the formulas, ascending.
-pub fn untils_of(alloc: Global, nodes: &[Node]) -> Result<Vec<u32>, AllocError> {
-    let mut untils = Vec::new(alloc);
-    for (n, node) in nodes.iter().enumerate() {
-        if let Node::Until(_, _) = *node {
-            untils.push(n as u32)?;
-        }
-    }
-    Ok(untils)
 }
 
 /// The letters that meet those of the literals that are in the set.

@@ -1,0 +1,11 @@
+//! Automata without the states that no accepting run needs.
+#![tactic(auto)]
+
+mod lives;
+mod reaches;
+mod trims;
+
+pub use trims::trim;
+
+#[cfg(test)]
+mod tests;
