@@ -77,3 +77,27 @@ impl<'a> From<AllocError> for Fault<'a> {
         Fault::Memory
     }
 }
+
+impl<'a> From<FormError> for Fault<'a> {
+    
+
+    fn from(error: FormError) -> Self {
+        match error {
+            FormError::TooManyFormulas => Fault::Formulas,
+            FormError::Memory => Fault::Memory,
+        }
+    }
+}
+
+impl<'a> From<GameError> for Fault<'a> {
+    
+
+    fn from(error: GameError) -> Self {
+        match error {
+            GameError::TooManyFormulas => Fault::Formulas,
+            GameError::TooWide => Fault::Covers,
+            GameError::TooManyStates => Fault::States,
+            GameError::Memory => Fault::Memory,
+        }
+    }
+}
