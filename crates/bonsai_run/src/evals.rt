@@ -36,12 +36,7 @@ pub fn evaluate<'a, H: Shelf>(
 }
 
 /// The lasso of a text, which has this name.
-fn lasso_of<'a>(
-    alloc: Global,
-    text: &[u8],
-    name: &'a str,
-    signals: u32,
-) -> Result<Lasso, Fault<'a>>
+fn lasso_of<'a>(alloc: Global, text: &[u8], name: &'a str, signals: u32) -> Result<Lasso, Fault<'a>>
     requires few { signals ≤ 64 }
     requires short { length text.now ≤ 1048576 }
 {

@@ -79,8 +79,6 @@ impl<'a> From<AllocError> for Fault<'a> {
 }
 
 impl<'a> From<FormError> for Fault<'a> {
-    
-
     fn from(error: FormError) -> Self {
         match error {
             FormError::TooManyFormulas => Fault::Formulas,
@@ -90,8 +88,6 @@ impl<'a> From<FormError> for Fault<'a> {
 }
 
 impl<'a> From<GameError> for Fault<'a> {
-    
-
     fn from(error: GameError) -> Self {
         match error {
             GameError::TooManyFormulas => Fault::Formulas,

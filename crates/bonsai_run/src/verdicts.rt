@@ -23,7 +23,9 @@ pub enum Verdict {
         machine: Machine,
     },
     /// Neither player wins at a bound that was tried, of which this is the last.
-    Unknown { bound: u32 },
+    Unknown {
+        bound: u32,
+    },
 }
 
 impl Verdict {
