@@ -17,6 +17,8 @@ use word_core::{Kind, Line, Machine, MachineFault, Names, Player, Target, first_
 pub fn read_machine(alloc: Global, text: &[u8], names: &Names) -> Result<Machine, MachineError>
     requires few { length names.now.inputs.items + length names.now.outputs.items ≤ 64 }
     requires short { length text.now < 2 ^ 32 - 1 }
+    ensures inputs { IfOk result (λ m. m.inputs ≡ length names.now.inputs.items) }
+    ensures outputs { IfOk result (λ m. m.outputs ≡ length names.now.outputs.items) }
 {
     let mut lines = Lines::of(text);
     let (player, kind) = read_owner(&mut lines, names.target)?;
