@@ -1,6 +1,10 @@
 -- Boards, jobs and outcomes as values.
 use Rattle.std.specs.Prelude.{◌≡◌, ℕ, zero, suc, ℤ, ◌+◌, ◌<◌, ◌%◌, Bool, true, false, List, [], ◌∷◌, length, Option, Some, None, slice_index_or}
-use Rattle.std.specs.List.{Contains}
+use Rattle.std.specs.List.{Contains, remove}
+use Rattle.antichain_list.specs.Antichain.{added}
+use Rattle.counter_vec.specs.Counters.{at_or_below, lexicographic}
+use Rattle.word_core.specs.declared.branches.Branch.{Branch}
+use Rattle.word_core.specs.declared.branches.Branch.TheVariants.{Leaf}
 use Rattle.game_form.specs.Game.{GameData}
 use Rattle.game_form.specs.Vector.{IsVector}
 use Rattle.cpre_step.specs.Refinement.{AreVectors, AreLeft, answers}
@@ -66,3 +70,21 @@ pub record IsOutcome (o : OutcomeData) : Type 0 where
   pub vectors : AreVectors o.game o.snapshot
   pub vector : IsVector o.game o.entry
   pub refined : IsLeft o.game o.snapshot o.entry o.left
+
+abbrev pub no_node : Branch
+no_node = Leaf 0
+
+-- the list with vectors put one after another
+abbrev pub puts : List (List ℤ) → List (List ℤ) → List (List ℤ)
+puts list [] = list
+puts list (v ∷ vectors) = puts (added at_or_below lexicographic v list) vectors
+
+-- the list in which what is left of an entry has taken its place
+abbrev pub replaced : List (List ℤ) → ℕ → List (List ℤ) → List (List ℤ)
+replaced list place left = puts (remove list place) left
+
+abbrev pub IsAt : List (List ℤ) → ℕ → List ℤ → Type 0
+IsAt list place v = (place < length list) × (entry_at list place ≡ v)
+
+abbrev pub IsNowhere : List (List ℤ) → List ℤ → Type 0
+IsNowhere list v = (i : ℕ) → i < length list → entry_at list i ≡ v → ⊥

@@ -1,10 +1,15 @@
 //! The board: the list of what is still possible, with marks.
 
-ghost use Rattle.std.specs.Prelude.{◌≡◌, ◌<◌, ◌%◌, ◌∷◌, [], false, IfOk, length, MatchOption};
-ghost use Rattle.game_form.specs.Vector.{top};
+ghost use Rattle.std.specs.Prelude.{◌≡◌, ◌<◌, ◌%◌, ◌∷◌, [], false, IfOk, length, MatchOption, MatchResult, not};
+ghost use Rattle.antichain_list.specs.Antichain.{covered};
+ghost use Rattle.counter_vec.specs.Counters.{at_or_below};
+ghost use Rattle.game_form.specs.Vector.{top, initial};
 
+use crate::commits::{exchange, holds_initial, place_of};
+use crate::games::same_game;
 use crate::jobs::{Job, Outcome};
 use crate::marks::{count_open, find_open};
+use crate::sames::same_list;
 use antichain_list::{Downset, ListDownset};
 use counter_vec::Counters;
 use game_form::Game;
@@ -47,6 +52,7 @@ impl Model for Board {
 
 impl Board {
     ghost use Rattle.game_core.specs.Board.{IsBoard, open_count, job_of, mark_at};
+    ghost use Rattle.game_core.specs.Commit.{Commits};
 
     /// The board with the top vector alone, not fresh.
     pub fn open(alloc: Global, g: Arc<Game>) -> Result<Board, AllocError>
@@ -102,5 +108,48 @@ impl Board {
             snapshot: Arc::try_clone(&self.list)?,
             entry,
         }))
+    }
+
+    /// Whether no entry is at or above the initial vector.
+    pub fn lost(&self) -> bool
+        ensures { result ≡ not (covered at_or_below (initial self.now.game) self.now.list) }
+    {
+        !holds_initial(&self.game, &self.list)
+    }
+
+    /// Takes an outcome in, by the first of these that applies: Other, where its game isn't the board's; Gone,
+    /// where its entry isn't in the list; Replaced, where something is left of its entry or nothing; Fresh, where
+    /// its snapshot is the list; Stale. Want of memory leaves the board as it is.
+    pub fn commit(&mut self, alloc: Global, o: Outcome) -> Result<Committed, AllocError>
+        ensures { MatchResult result (λ done. Commits self.old o self.new done) (λ _. self.new ≡ self.old) }
+    {
+        let Outcome {
+            game,
+            snapshot,
+            entry,
+            left,
+        } = o;
+        if !same_game(&self.game, &game) {
+            return Ok(Committed::Other);
+        }
+        let Some(place) = place_of(&self.list, &entry) else {
+            return Ok(Committed::Gone);
+        };
+        match left {
+            Some(left) => {
+                let list = exchange(alloc, &self.list, place, left)?;
+                let marks = vec![in alloc; false; list.len()]?;
+                self.list = Arc::new(alloc, list)?;
+                self.marks = marks;
+                Ok(Committed::Replaced)
+            }
+            None => {
+                if !same_list(&self.list, &snapshot) {
+                    return Ok(Committed::Stale);
+                }
+                self.marks[place] = true;
+                Ok(Committed::Fresh)
+            }
+        }
     }
 }

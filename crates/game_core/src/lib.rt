@@ -2,6 +2,8 @@
 #![tactic(auto)]
 
 mod boards;
+mod commits;
+mod games;
 mod jobs;
 mod marks;
 mod sames;

@@ -1,0 +1,6 @@
+use Rattle.std.proofs.Common.{arith, refl}
+use Rattle.std.proofs.lemmas.List.{ext_get_or}
+use Rattle.game_core.proofs.games.same_options.Goals as goal
+
+pub returns : goal.returns
+returns c = ((λ h. ext_get_or (0, 0) c.args.xs.now c.args.ys.now (omega arith) (λ k lt. c.loop-i.invariant k (omega arith))), (λ h. refl))
