@@ -2,13 +2,14 @@
 #![tactic(auto)]
 
 mod bit_covers;
-mod covers;
+mod cover_lists;
 mod number_sets;
 mod reductions;
+mod rows;
 mod tables;
 
 pub use bit_covers::BitCover;
-pub use covers::{Cover, CoverError, covers};
+pub use cover_lists::{Cover, CoverError, covers};
 pub use number_sets::NumberSet;
 pub use tables::CoverTable;
 

@@ -60,10 +60,12 @@ impl NumberSet {
     }
 
     /// How many numbers are in one of the two sets.
-    pub fn size_with(&self, other: &NumberSet) -> u32 {
+    pub fn size_with(&self, other: &NumberSet) -> u32
+        ensures { result ≤ 512 }
+    {
         let mut size = 0;
         for i in 0..8 {
-            size += (self.words[i] | other.words[i]).count_ones();
+            size += ones(self.words[i] | other.words[i]);
         }
         size
     }
@@ -132,4 +134,11 @@ impl NumberSet {
         }
         Ok(numbers)
     }
+}
+
+/// How many bits of a word are 1.
+fn ones(word: u64) -> u32
+    ensures { result ≤ 64 }
+{
+    word.count_ones()
 }

@@ -1,11 +1,15 @@
 //! Products of lists of covers, reduced.
 
-ghost use Rattle.std.specs.Prelude.{◌≡◌, ◌<◌, ◌≤◌, ◌+◌, length, All};
+ghost use Rattle.std.specs.Prelude.{◌≡◌, ◌<◌, ◌≤◌, ◌+◌, ℕ, length, All, IfOk, OnOk, [], ◌++◌, ◌∷◌};
+ghost use Rattle.std.specs.Vec.{vec_len};
+ghost use Rattle.cover_sets.specs.Cover.{ArePairs};
+ghost use Rattle.cover_sets.specs.Union.{AreUnions};
 
 use crate::bit_covers::BitCover;
-use crate::covers::CoverError;
+use crate::cover_lists::CoverError;
 use crate::number_sets::NumberSet;
 use std::alloc::{AllocError, Global};
+use std::marker::Model;
 
 /// The most covers of a reduced list.
 const WIDEST: usize = 1024;
@@ -27,7 +31,12 @@ pub fn product(
     opposites: &[(u32, u32)],
     xs: &[BitCover],
     ys: &[BitCover],
-) -> Result<Vec<BitCover>, CoverError> {
+) -> Result<Vec<BitCover>, CoverError>
+    requires pairs { ArePairs opposites.now }
+    requires left { length xs.now ≤ 2048 }
+    requires right { length ys.now ≤ 2048 }
+    ensures { IfOk result (λ list. length list.items ≤ 1024) }
+{
     let unions = unions_of(alloc, opposites, xs, ys)?;
     let mut kept = Kept::new(alloc);
     for union in &unions {
@@ -43,30 +52,43 @@ fn unions_of(
     opposites: &[(u32, u32)],
     xs: &[BitCover],
     ys: &[BitCover],
-) -> Result<Vec<Union>, AllocError> {
+) -> Result<Vec<Union>, AllocError>
+    requires pairs { ArePairs opposites.now }
+    requires left { length xs.now ≤ 2048 }
+    requires right { length ys.now ≤ 2048 }
+    ensures { IfOk result (λ unions. AreUnions (length xs.now) (length ys.now) unions.items) }
+{
     let mut unions = Vec::new(alloc);
-    for (left, x) in xs.iter().enumerate() {
-        add_unions(&mut unions, opposites, left as u32, x, ys)?;
+    for left in 0..xs.len() {
+        add_unions(&mut unions, opposites, xs, left, ys)?;
     }
     unions.sort_by_key(|union| union.size)?;
     Ok(unions)
 }
 
-/// Adds the consistent unions of `x` with each of `ys`.
+/// Adds the consistent unions of the cover at the place `left` with each of `ys`.
 fn add_unions(
     unions: &mut Vec<Union>,
     opposites: &[(u32, u32)],
-    left: u32,
-    x: &BitCover,
+    xs: &[BitCover],
+    left: usize,
     ys: &[BitCover],
-) -> Result<(), AllocError> {
+) -> Result<(), AllocError>
+    requires pairs { ArePairs opposites.now }
+    requires place { left < length xs.now }
+    requires left { length xs.now ≤ 2048 }
+    requires right { length ys.now ≤ 2048 }
+    requires unions { AreUnions (length xs.now) (length ys.now) unions.old.items }
+    ensures { OnOk result (AreUnions (length xs.now) (length ys.now) unions.new.items) }
+{
+    let x = &xs[left];
     let against = against(opposites, &x.literals);
     for (right, y) in ys.iter().enumerate() {
         if !against.meets(&y.literals) {
             let size = x.size_with(y);
             unions.push(Union {
                 size,
-                left,
+                left: left as u32,
                 right: right as u32,
             })?;
         }
@@ -75,7 +97,9 @@ fn add_unions(
 }
 
 /// The negations of these literals, as far as they have numbers.
-fn against(opposites: &[(u32, u32)], literals: &NumberSet) -> NumberSet {
+fn against(opposites: &[(u32, u32)], literals: &NumberSet) -> NumberSet
+    requires { ArePairs opposites.now }
+{
     let mut against = NumberSet::EMPTY;
     for (positive, negative) in opposites {
         if literals.contains(*positive) {
@@ -88,15 +112,28 @@ fn against(opposites: &[(u32, u32)], literals: &NumberSet) -> NumberSet {
     against
 }
 
-/// Covers of which none contains another one, with their signatures.
+/// Covers of which none contains another one, at most 1,024, with their signatures.
 #[derive(Drop)]
 struct Kept {
     covers: Vec<BitCover>,
     signatures: Vec<u64>,
 }
 
+impl Model for Kept {
+    ghost use Rattle.std.specs.Prelude.{List, ◌≤◌, length};
+    ghost use Rattle.cover_sets.specs.declared.bit_covers.BitCover.{BitCover};
+
+    ghost Value = { List BitCover };
+
+    ghost view = { λ k. k.covers.items };
+
+    ghost invariant = { λ k. length k.covers.items ≤ 1024 };
+}
+
 impl Kept {
-    fn new(alloc: Global) -> Kept {
+    fn new(alloc: Global) -> Kept
+        ensures { result ≡ [] }
+    {
         Kept {
             covers: Vec::new(alloc),
             signatures: Vec::new(alloc),
@@ -124,7 +161,9 @@ impl Kept {
     }
 
     /// The kept covers in their order.
-    fn into_ordered(self) -> Result<Vec<BitCover>, CoverError> {
+    fn into_ordered(self) -> Result<Vec<BitCover>, CoverError>
+        ensures { IfOk result (λ list. length list.items ≤ 1024) }
+    {
         let Kept {
             mut covers,
             signatures,

@@ -1,24 +1,40 @@
 //! The reduced covers of each formula.
 
-ghost use Rattle.std.specs.Prelude.{◌≡◌, ◌<◌, ◌≤◌, ◌+◌, length, All};
+ghost use Rattle.std.specs.Prelude.{◌≡◌, ◌<◌, ◌≤◌, ◌+◌, length, All, IfOk, IfSome};
+ghost use Rattle.cover_sets.specs.Cover.{ArePairs};
+ghost use Rattle.ltl_form.specs.Normal.{IsNodeAt};
 
 use crate::bit_covers::BitCover;
-use crate::covers::CoverError;
+use crate::cover_lists::CoverError;
 use crate::number_sets::NumberSet;
 use crate::reductions::product;
+use crate::rows::Row;
 use ltl_form::{Node, Normal};
 use std::alloc::{AllocError, Global};
+use std::marker::Model;
 
 /// The reduced list of covers of each formula, by number; none where a list that its own one needs is too wide.
 #[derive(Drop)]
 pub struct CoverTable {
     opposites: Vec<(u32, u32)>,
-    rows: Vec<Option<Vec<BitCover>>>,
+    rows: Vec<Row>,
+}
+
+impl Model for CoverTable {
+    ghost use Rattle.cover_sets.specs.Cover.{TableData, IsTable};
+
+    ghost Value = { TableData };
+
+    ghost view = { λ t. record { opposites = t.opposites.items; rows = t.rows.items } };
+
+    ghost invariant = { λ t. IsTable t.opposites.items t.rows.items };
 }
 
 impl CoverTable {
     /// The table of the formulas of `f`.
-    pub fn new(alloc: Global, f: &Normal) -> Result<CoverTable, AllocError> {
+    pub fn new(alloc: Global, f: &Normal) -> Result<CoverTable, AllocError>
+        ensures { IfOk result (λ table. length table.rows ≡ length f.now.nodes) }
+    {
         let mut table = CoverTable {
             opposites: opposites_of(alloc, f.nodes())?,
             rows: Vec::new(alloc),
@@ -31,40 +47,36 @@ impl CoverTable {
     }
 
     /// The reduced list of covers of a set of formulas.
-    pub fn of_set(&self, alloc: Global, set: &NumberSet) -> Result<Vec<BitCover>, CoverError> {
+    pub fn of_set(&self, alloc: Global, set: &NumberSet) -> Result<Vec<BitCover>, CoverError>
+        ensures { IfOk result (λ list. length list.items ≤ 1024) }
+    {
         let mut list = one(alloc, &BitCover::EMPTY)?;
         for (n, row) in self.rows.iter().enumerate() {
             if set.contains(n as u32) {
-                list = self.with_row(alloc, &list, row)?;
+                list = product(alloc, &self.opposites, &list, row.list()?)?;
             }
         }
         Ok(list)
     }
 
-    /// The reduced product with a row.
-    fn with_row(
-        &self,
-        alloc: Global,
-        list: &[BitCover],
-        row: &Option<Vec<BitCover>>,
-    ) -> Result<Vec<BitCover>, CoverError> {
-        match row {
-            Some(row) => product(alloc, &self.opposites, list, row),
-            None => Err(CoverError::TooWide),
-        }
-    }
-
     /// The row of the next formula.
-    fn row_of(&self, alloc: Global, node: &Node) -> Result<Option<Vec<BitCover>>, AllocError> {
+    fn row_of(&self, alloc: Global, node: &Node) -> Result<Row, AllocError>
+        requires node { IsNodeAt (length self.now.rows) node.now }
+        requires room { length self.now.rows < 512 }
+    {
         match self.list_of(alloc, node) {
-            Ok(list) => Ok(Some(list)),
-            Err(CoverError::TooWide) => Ok(None),
+            Ok(list) => Ok(Row::new(list)),
+            Err(CoverError::TooWide) => Ok(Row::WIDE),
             Err(CoverError::Memory) => Err(AllocError),
         }
     }
 
     /// The reduced list of the next formula.
-    fn list_of(&self, alloc: Global, node: &Node) -> Result<Vec<BitCover>, CoverError> {
+    fn list_of(&self, alloc: Global, node: &Node) -> Result<Vec<BitCover>, CoverError>
+        requires node { IsNodeAt (length self.now.rows) node.now }
+        requires room { length self.now.rows < 512 }
+        ensures { IfOk result (λ list. length list.items ≤ 1024) }
+    {
         let n = self.rows.len() as u32;
         match *node {
             Node::True => Ok(one(alloc, &BitCover::EMPTY)?),
@@ -82,11 +94,11 @@ impl CoverTable {
     }
 
     /// The list of a formula whose number is below the next one.
-    fn row(&self, n: u32) -> Result<&[BitCover], CoverError> {
-        match &self.rows[n as usize] {
-            Some(row) => Ok(row),
-            None => Err(CoverError::TooWide),
-        }
+    fn row(&self, n: u32) -> Result<&[BitCover], CoverError>
+        requires { n < length self.now.rows }
+        ensures { IfOk result (λ row. length row.now ≤ 1024) }
+    {
+        self.rows[n as usize].list()
     }
 
     /// The covers of one of the two lists.
@@ -95,7 +107,11 @@ impl CoverTable {
         alloc: Global,
         fs: &[BitCover],
         gs: &[BitCover],
-    ) -> Result<Vec<BitCover>, CoverError> {
+    ) -> Result<Vec<BitCover>, CoverError>
+        requires fs { length fs.now ≤ 1024 }
+        requires gs { length gs.now ≤ 1024 }
+        ensures { IfOk result (λ list. length list.items ≤ 1024) }
+    {
         let mut raw = Vec::with_capacity(alloc, fs.len() + gs.len())?;
         raw.extend_from_slice(fs)?;
         raw.extend_from_slice(gs)?;
@@ -109,7 +125,12 @@ impl CoverTable {
         n: u32,
         fs: &[BitCover],
         gs: &[BitCover],
-    ) -> Result<Vec<BitCover>, CoverError> {
+    ) -> Result<Vec<BitCover>, CoverError>
+        requires number { n < 512 }
+        requires fs { length fs.now ≤ 1024 }
+        requires gs { length gs.now ≤ 1024 }
+        ensures { IfOk result (λ list. length list.items ≤ 1024) }
+    {
         let put_off = BitCover {
             literals: NumberSet::EMPTY,
             next: NumberSet::EMPTY.with(n),
@@ -130,7 +151,12 @@ impl CoverTable {
         n: u32,
         fs: &[BitCover],
         gs: &[BitCover],
-    ) -> Result<Vec<BitCover>, CoverError> {
+    ) -> Result<Vec<BitCover>, CoverError>
+        requires number { n < 512 }
+        requires fs { length fs.now ≤ 1024 }
+        requires gs { length gs.now ≤ 1024 }
+        ensures { IfOk result (λ list. length list.items ≤ 1024) }
+    {
         let mut ends = Vec::with_capacity(alloc, fs.len() + 1)?;
         ends.extend_from_slice(fs)?;
         ends.push(later(n))?;
@@ -139,7 +165,10 @@ impl CoverTable {
 }
 
 /// The pairs of a literal and its negation, by number.
-fn opposites_of(alloc: Global, nodes: &[Node]) -> Result<Vec<(u32, u32)>, AllocError> {
+fn opposites_of(alloc: Global, nodes: &[Node]) -> Result<Vec<(u32, u32)>, AllocError>
+    requires { length nodes.now ≤ 512 }
+    ensures { IfOk result (λ pairs. ArePairs pairs.items) }
+{
     let mut opposites = Vec::new(alloc);
     for (n, node) in nodes.iter().enumerate() {
         if let Node::Lit {
@@ -159,14 +188,18 @@ fn opposites_of(alloc: Global, nodes: &[Node]) -> Result<Vec<(u32, u32)>, AllocE
     Ok(opposites)
 }
 
-fn one(alloc: Global, cover: &BitCover) -> Result<Vec<BitCover>, AllocError> {
+fn one(alloc: Global, cover: &BitCover) -> Result<Vec<BitCover>, AllocError>
+    ensures { IfOk result (λ list. length list.items ≡ 1) }
+{
     let mut list = Vec::new(alloc);
     list.push(*cover)?;
     Ok(list)
 }
 
 /// The cover that demands the literal with this number.
-fn literal(n: u32) -> BitCover {
+fn literal(n: u32) -> BitCover
+    requires { n < 512 }
+{
     BitCover {
         literals: NumberSet::EMPTY.with(n),
         next: NumberSet::EMPTY,
@@ -175,7 +208,9 @@ fn literal(n: u32) -> BitCover {
 }
 
 /// The cover that demands the formula with this number of the next position.
-fn later(n: u32) -> BitCover {
+fn later(n: u32) -> BitCover
+    requires { n < 512 }
+{
     BitCover {
         literals: NumberSet::EMPTY,
         next: NumberSet::EMPTY.with(n),

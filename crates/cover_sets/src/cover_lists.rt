@@ -1,7 +1,7 @@
 //! Covers of sets of formulas, as lists of numbers.
 
 ghost use Rattle.std.specs.Prelude.{◌≡◌, ◌<◌, ◌≤◌, ◌+◌, length, All};
-ghost use Rattle.cover_sets.specs.declared.covers.CoverError.TheVariants.{Memory};
+ghost use Rattle.cover_sets.specs.declared.cover_lists.CoverError.TheVariants.{Memory};
 
 use crate::bit_covers::BitCover;
 use crate::number_sets::NumberSet;
