@@ -1,1 +1,9 @@
+pub mod Composition
+pub mod Formulas
+pub mod Headings
+pub mod Mains
+pub mod Marks
+pub mod Reads
+pub mod Signals
 pub mod Specification
+pub mod Words

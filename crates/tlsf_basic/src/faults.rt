@@ -1,11 +1,12 @@
 //! Why a text is no specification.
 
 ghost use Rattle.std.specs.Prelude.{◌≡◌};
+ghost use Rattle.tlsf_basic.specs.Specification.{text_error};
 ghost use Rattle.tlsf_basic.specs.declared.faults.TextError.TheVariants.{Memory};
 
 use std::alloc::{AllocError, AllocFailed};
 use thiserror::Error;
-use tlsf_lex::LexFault;
+use tlsf_lex::{LexError, LexFault};
 
 /// A part that a specification must have.
 #[derive(Debug, Clone, Copy, PartialEq, Eq)]
@@ -66,5 +67,19 @@ impl<T: Drop> From<AllocFailed<T>> for TextError {
 
     fn from(_error: AllocFailed<T>) -> TextError {
         TextError::Memory
+    }
+}
+
+impl From<LexError> for TextError {
+    ghost from_gives = { λ error e. e ≡ text_error error };
+
+    fn from(error: LexError) -> TextError {
+        match error {
+            LexError::Fault { what, place } => {
+                let what = TextFault::Lex(what);
+                TextError::Fault { what, place }
+            }
+            LexError::Memory => TextError::Memory,
+        }
     }
 }

@@ -1,0 +1,10 @@
+use Rattle.std.proofs.Common.{◌≡◌, ◌-◌, length}
+use Rattle.tlsf_basic.specs.Reads.{turns}
+use Rattle.tlsf_basic.specs.Marks.{in_braces}
+use Rattle.tlsf_basic.specs.Mains.{read_part, no_parts}
+use Rattle.tlsf_basic.proofs.mains.read_parts.Given as goal
+
+abbrev pub invariant-loop : goal.invariant-loop
+invariant-loop l =
+    turns in_braces read_part (l.end - l.counter) l.parts l.rest
+    ≡ turns in_braces read_part (length l.tokens) no_parts l.tokens
