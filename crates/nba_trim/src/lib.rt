@@ -2,7 +2,9 @@
 #![tactic(auto)]
 
 mod lives;
+mod numbers;
 mod reaches;
+mod searches;
 mod trims;
 
 pub use trims::trim;

@@ -1,8 +1,10 @@
 //! The automaton of the live states that the first one reaches.
 
-ghost use Rattle.std.specs.Prelude.{◌≡◌, ◌<◌, ◌≤◌, length, All, IfOk};
+ghost use Rattle.std.specs.Prelude.{◌≡◌, ◌<◌, length, All, IfOk, IfSome};
+ghost use Rattle.word_core.specs.Automaton.{IsEdge};
 
 use crate::lives::live_states;
+use crate::numbers::Numbers;
 use crate::reaches::reached_states;
 use std::alloc::{AllocError, Global};
 use word_core::{Automaton, Edge, State};
@@ -16,58 +18,59 @@ pub fn trim(alloc: Global, a: &Automaton) -> Result<Automaton, AllocError>
 {
     let live = live_states(alloc, a)?;
     let reached = reached_states(alloc, a, &live)?;
-    let kept = kept_of(alloc, &reached)?;
-    let numbers = numbers_of(alloc, reached.len(), &kept)?;
-    let init = match a.init() {
-        Some(first) => numbers[first as usize],
-        None => None,
-    };
-    let mut states = Vec::with_capacity(alloc, kept.len())?;
-    for q in &kept {
-        let edges = renumbered(alloc, a.edges(*q), &numbers)?;
-        states.push(State { edges })?;
-    }
-    match Automaton::make(a.signals(), states, init) {
+    let numbers = Numbers::new(alloc, &reached)?;
+    let states = kept_states(alloc, a, &numbers)?;
+    match Automaton::make(a.signals(), states, new_first(a, &numbers)) {
         Some(trimmed) => Ok(trimmed),
         None => unreachable!(),
     }
 }
 
-/// The places of the true values, ascending.
-fn kept_of(alloc: Global, reached: &[bool]) -> Result<Vec<u32>, AllocError> {
-    let mut kept = Vec::new(alloc);
-    for (q, is_reached) in reached.iter().enumerate() {
-        if *is_reached {
-            kept.push(q as u32)?;
-        }
+/// The new number of the first state, if it is kept.
+fn new_first(a: &Automaton, numbers: &Numbers) -> Option<u32>
+    requires { length numbers.now.numbers ≡ length a.now.states }
+    ensures { IfSome result (λ k. k < length numbers.now.kept) }
+{
+    match a.init() {
+        Some(first) => numbers.of(first),
+        None => None,
     }
-    Ok(kept)
 }
 
-/// The new numbers of the kept states, by old number.
-fn numbers_of(alloc: Global, count: usize, kept: &[u32]) -> Result<Vec<Option<u32>>, AllocError> {
-    let mut numbers = vec![in alloc; None; count]?;
-    for (number, q) in kept.iter().enumerate() {
-        numbers[*q as usize] = Some(number as u32);
+/// The kept states with their edges.
+fn kept_states(alloc: Global, a: &Automaton, numbers: &Numbers) -> Result<Vec<State>, AllocError>
+    requires { length numbers.now.numbers ≡ length a.now.states }
+    ensures count { IfOk result (λ states. length states.items ≡ length numbers.now.kept) }
+    ensures edges { IfOk result (λ states. All (All (IsEdge a.now.signals (length numbers.now.kept))) states.items) }
+{
+    let mut states = Vec::with_capacity(alloc, numbers.kept().len())?;
+    for q in numbers.kept() {
+        let edges = kept_edges(alloc, a, *q, numbers)?;
+        states.push(State { edges })?;
     }
-    Ok(numbers)
+    Ok(states)
 }
 
-/// The edges to kept states, with the new numbers of their ends.
-fn renumbered(
+/// The edges of a state to kept states, with the new numbers of their ends.
+fn kept_edges(
     alloc: Global,
-    edges: &[Edge],
-    numbers: &[Option<u32>],
-) -> Result<Vec<Edge>, AllocError> {
-    let mut kept = Vec::new(alloc);
-    for edge in edges {
-        if let Some(next) = numbers[edge.next as usize] {
-            kept.push(Edge {
+    a: &Automaton,
+    q: u32,
+    numbers: &Numbers,
+) -> Result<Vec<Edge>, AllocError>
+    requires state { q < length a.now.states }
+    requires numbers { length numbers.now.numbers ≡ length a.now.states }
+    ensures { IfOk result (λ edges. All (IsEdge a.now.signals (length numbers.now.kept)) edges.items) }
+{
+    let mut edges = Vec::new(alloc);
+    for edge in a.edges(q) {
+        if let Some(next) = numbers.of(edge.next) {
+            edges.push(Edge {
                 cube: edge.cube,
                 next,
                 marked: edge.marked,
             })?;
         }
     }
-    Ok(kept)
+    Ok(edges)
 }
