@@ -1,11 +1,10 @@
 -- The initial vector, and what is at or above it.
-use Rattle.std.proofs.Common.{◌≡◌, ℕ, zero, suc, ◌+◌, ◌<◌, ◌≤◌, Bool, true, false, List, [], ◌∷◌, length, refl, sym, ◌∙◌, ap, subst, arith, Option, Some, None, ◌⊎◌, inl, inr}
+use Rattle.std.proofs.Common.{◌≡◌, ℕ, ◌<◌, Bool, true, false, List, length, refl, sym, ◌∙◌, subst, arith, Option, Some, None, inl, inr}
 use Rattle.std.specs.Prelude.{ℤ, pos, negsuc, ◌≤ℤ◌, int_le}
 use Rattle.std.proofs.lemmas.Int.{ints}
 use Rattle.std.proofs.lemmas.Bool.{cases_eq}
 use Rattle.std.proofs.lemmas.List.FromFn.{get_or-map-range_with_len, length-map-range_with_len}
-use Rattle.game_form.specs.Game.{GameData, lanes}
-use Rattle.game_form.specs.Vector.{IsVector, lane, vector, begins, initial}
+use Rattle.game_form.specs.Vector.{lane, vector, begins}
 use Rattle.counter_vec.specs.Counters.{at_or_below}
 use Rattle.counter_vec.proofs.Vectors.{at_or_below-lanes, lanes-at_or_below}
 

@@ -1,3 +1,11 @@
-pub mod Places
-pub mod Kept
+pub mod Boxes
+pub mod ColumnReads
+pub mod Extents
 pub mod First
+pub mod Kept
+pub mod Lists
+pub mod Orders
+pub mod PendingMarks
+pub mod Pieces
+pub mod Places
+pub mod Replacements

@@ -1,5 +1,5 @@
 -- The entries that aren't fresh, by their marks.
-use Rattle.std.proofs.Common.{◌≡◌, ℕ, zero, suc, ◌+◌, ◌-◌, ◌<◌, ◌≤◌, Bool, true, false, List, [], ◌∷◌, length, drop, get_or, refl, sym, ◌∙◌, ap, subst, arith, add-one, drop-cons}
+use Rattle.std.proofs.Common.{◌≡◌, ℕ, suc, ◌+◌, ◌<◌, Bool, true, false, List, ◌∷◌, length, drop, get_or, ◌∙◌, ap, add-one, drop-cons}
 use Rattle.game_core.specs.Board.{open_count, open_place}
 
 pub marks_from : (marks : List Bool) (i : ℕ) (b : Bool) → i < length marks → get_or marks i false ≡ b → drop i marks ≡ b ∷ drop (i + 1) marks

@@ -1,5 +1,5 @@
 -- Boards, jobs and outcomes as values.
-use Rattle.std.specs.Prelude.{◌≡◌, ℕ, zero, suc, ℤ, ◌+◌, ◌<◌, ◌%◌, Bool, true, false, List, [], ◌∷◌, length, Option, Some, None, slice_index_or}
+use Rattle.std.specs.Prelude.{◌≡◌, ℕ, zero, suc, ℤ, ◌<◌, Bool, true, false, List, [], ◌∷◌, length, Option, Some, None, slice_index_or}
 use Rattle.std.specs.List.{Contains, remove}
 use Rattle.antichain_list.specs.Antichain.{added}
 use Rattle.counter_vec.specs.Counters.{at_or_below, lexicographic}

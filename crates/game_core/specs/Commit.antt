@@ -1,5 +1,5 @@
 -- What a commit does.
-use Rattle.std.specs.Prelude.{◌≡◌, ℕ, ℤ, ◌<◌, Bool, true, false, List, length, Option, Some, None, slice_set, replicate}
+use Rattle.std.specs.Prelude.{◌≡◌, ℕ, ℤ, true, false, List, length, Some, None, slice_set, replicate}
 use Rattle.game_core.specs.Board.{BoardData, OutcomeData, replaced, IsAt, IsNowhere}
 use Rattle.game_core.specs.declared.boards.Committed.{Committed}
 use Rattle.game_core.specs.declared.boards.Committed.TheVariants.{Fresh, Replaced, Stale, Gone, Other}

@@ -1,2 +1,10 @@
 pub mod Board
+pub mod Columns
 pub mod Commit
+pub mod Entries
+pub mod Front
+pub mod Known
+pub mod Pending
+pub mod Plan
+pub mod Solved
+pub mod Tried

@@ -3,10 +3,18 @@
 
 mod boards;
 mod commits;
+mod exchanges;
+mod fronts;
 mod games;
 mod jobs;
+mod looks;
 mod marks;
+mod plans;
+mod refinements;
 mod sames;
+mod searches;
+mod solvers;
 
 pub use boards::{Board, Committed};
 pub use jobs::{Job, Outcome, work};
+pub use solvers::{Solved, solve, solve_alone};

@@ -1,4 +1,4 @@
-use Rattle.std.proofs.Common.{◌≡◌, ◌∙◌, sym, ap, Some, None, ◌<◌, arith, rules}
+use Rattle.std.proofs.Common.{◌≡◌, ◌∙◌, sym, ap, Some, None, rules}
 use Rattle.std.specs.Prelude.{pos, int_le}
 use mir.Val.{SFits}
 use mir.Syntax.{w16}

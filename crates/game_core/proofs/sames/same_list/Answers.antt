@@ -1,4 +1,4 @@
-use Rattle.std.proofs.Common.{◌≡◌, ◌∙◌, sym, ap, arith, refl, length, []}
+use Rattle.std.proofs.Common.{◌∙◌, sym, arith, refl, []}
 use Rattle.std.proofs.lemmas.List.{ext_get_or}
 use Rattle.game_core.proofs.sames.same_list.Goals as goal
 

@@ -9,14 +9,15 @@ no_literals : (n : ℕ) → LiteralsBelow n []
 no_literals n k d l = absurd (omega arith)
 
 pub returns : goal.returns
-returns c = record { literals = λ n h.
-    let is =
-        ap (λ l. tree_at l c.chosen-place.result) c.as_slice-forms.ensures.value
-        ∙ ap (tree_at c.pair_of.new.forms) c.chosen-place.ensures
-        ∙ chosen_is c.pair_of.new.forms c.in_ok-pair.pair c.args.f.now c.args.positive c.in_ok-pair.ensures.is in
-    let low : tree_below n (tree_at c.as_slice-forms.result.now c.chosen-place.result) ≡ true =
-        ap (tree_below n) is ∙ normal_below n c.args.f.now c.args.positive h in
-    let none : LiteralsBelow n c.in_ok-numbering.numbering.nodes =
-        subst (LiteralsBelow n) (sym c.in_ok-numbering.ensures.nodes) (no_literals n) in
-    subst (LiteralsBelow n) (sym c.into_nodes.ensures.value) (c.in_ok-root.ensures.literals n low none);
+returns c = record {
+  literals = λ n h.
+      let is =
+      ap (λ l. tree_at l c.chosen-place.result) c.as_slice-forms.ensures.value
+      ∙ ap (tree_at c.pair_of.new.forms) c.chosen-place.ensures
+      ∙ chosen_is c.pair_of.new.forms c.in_ok-pair.pair c.args.f.now c.args.positive c.in_ok-pair.ensures.is in
+      let low : tree_below n (tree_at c.as_slice-forms.result.now c.chosen-place.result) ≡ true =
+      ap (tree_below n) is ∙ normal_below n c.args.f.now c.args.positive h in
+      let none : LiteralsBelow n c.in_ok-numbering.numbering.nodes =
+      subst (LiteralsBelow n) (sym c.in_ok-numbering.ensures.nodes) (no_literals n) in
+      subst (LiteralsBelow n) (sym c.into_nodes.ensures.value) (c.in_ok-root.ensures.literals n low none);
 }

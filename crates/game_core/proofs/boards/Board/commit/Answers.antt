@@ -1,9 +1,8 @@
-use Rattle.std.proofs.Common.{◌≡◌, ◌∙◌, ap, sym, subst, List, length, replicate, false, Some, Option}
+use Rattle.std.proofs.Common.{◌≡◌, ◌∙◌, ap, sym, subst, List, length, replicate, false}
 use Rattle.std.specs.Prelude.{ℤ, option_map}
 use Rattle.game_form.specs.Game.{GameData}
 use Rattle.cpre_step.specs.Refinement.{AreVectors}
-use Rattle.game_core.specs.Board.{BoardData, OutcomeData, replaced, IsLeft, IsAt, entry_at}
-use Rattle.game_core.specs.Commit.{exchanged}
+use Rattle.game_core.specs.Board.{BoardData, OutcomeData, replaced, IsLeft, IsAt}
 use Rattle.game_core.proofs.Kept.{exchanged_as, exchanged_view}
 use Rattle.game_core.proofs.boards.Board.commit.Goals as goal
 

@@ -1,9 +1,8 @@
-use Rattle.std.proofs.Common.{◌≡◌, ◌∙◌, ap, [], ◌∷◌, List, false, sym, subst, Bool}
+use Rattle.std.proofs.Common.{◌≡◌, ◌∙◌, ap, [], ◌∷◌, List, false, subst}
 use Rattle.std.specs.Prelude.{ℤ}
 use Rattle.game_form.specs.Vector.{top}
-use Rattle.game_core.specs.Board.{IsBoard}
 use Rattle.game_form.specs.Game.{IsGame}
-use Rattle.game_core.proofs.Kept.{opened, opened_as}
+use Rattle.game_core.proofs.Kept.{opened_as}
 use Rattle.game_core.proofs.boards.Board.open.Goals as goal
 
 pub invariant_of-result : goal.invariant_of-result

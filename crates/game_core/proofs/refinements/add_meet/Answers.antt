@@ -1,0 +1,15 @@
+use Rattle.std.proofs.Common.{◌≡◌, true, sym, subst, List}
+use Rattle.std.specs.Prelude.{ℤ}
+use Rattle.counter_vec.specs.Counters.{at_or_below}
+use Rattle.game_core.proofs.Orders.{met_left, met_right}
+use Rattle.game_core.proofs.Pieces.{meet_piece}
+use Rattle.game_core.proofs.refinements.add_meet.Goals as goal
+
+pub add_maximal-requires-clause-piece : goal.add_maximal-requires-clause-piece
+add_maximal-requires-clause-piece c =
+    let P : List ℤ → Type 0 = λ m. at_or_below m c.args.v.now ≡ true in
+    let Q : List ℤ → Type 0 = λ m. at_or_below m c.args.p.now ≡ true in
+    meet_piece c.args.f.now c.args.v.now c.args.p.now c.in_ok-meet.meet c.lanes.ensures.low c.requires.under
+    (c.requires.strict c.in_ok-meet.meet)
+    (subst P (sym c.in_ok-meet.ensures) (met_left c.args.v.now c.args.p.now c.requires.same))
+    (subst Q (sym c.in_ok-meet.ensures) (met_right c.args.v.now c.args.p.now c.requires.same))

@@ -1,0 +1,7 @@
+use Rattle.game_core.proofs.Lists.{open_are}
+use Rattle.game_core.proofs.solvers.open_entries.Goals as goal
+
+pub returns : goal.returns
+returns c =
+    rw (c.in_ok-vec.ensures.items, c.in_ok-vec-2.ensures.items, c.in_ok-vec-3.ensures.items, c.in_ok-top.ensures)
+    (open_are c.args.g.now c.args.slots _ c.known.ensures c.in_ok-no_answers.ensures)

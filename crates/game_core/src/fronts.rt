@@ -1,0 +1,110 @@
+//! The maximal vectors that are still possible, and what is known of each.
+
+ghost use Rattle.std.specs.Prelude.{◌≡◌, ◌<◌, ◌≤◌, ◌+◌, ℕ, true, length, vec_len, IfOk, IfSome, IfNone, false, slice_index_or};
+ghost use Rattle.std.specs.List.{All};
+ghost use Rattle.counter_vec.specs.Counters.{at_or_below};
+ghost use Rattle.game_form.specs.Game.{lanes};
+ghost use Rattle.game_form.specs.Vector.{IsVector};
+ghost use Rattle.game_core.specs.Front.{Misses};
+ghost use Rattle.game_core.specs.Known.{HaveLanes};
+
+use antichain_list::Entry;
+use counter_vec::Counters;
+use game_form::Game;
+use std::alloc::{AllocError, Global};
+
+/// What is known of an entry.
+#[derive(Drop)]
+pub struct Note {
+    /// The sum of its numbers.
+    pub sum: i64,
+    /// For kind second, for each class the place of an entry that answers it; for kind first, for each option of
+    /// the class that works the place of an entry that answers it.
+    pub answers: Vec<Option<usize>>,
+}
+
+/// The sum of the numbers of a vector.
+pub fn sum_of(v: &Counters) -> i64 {
+    let mut sum: i64 = 0;
+    for x in v.lanes() {
+        sum = sum.wrapping_add(*x as i64);
+    }
+    sum
+}
+
+/// So many answers, none of which is known.
+pub fn no_answers(alloc: Global, count: usize) -> Result<Vec<Option<usize>>, AllocError>
+    ensures { IfOk result (λ v. vec_len v ≡ count) }
+{
+    let mut answers = Vec::with_capacity(alloc, count)?;
+    for _ in 0..count {
+        answers.push(None)?;
+    }
+    Ok(answers)
+}
+
+/// So many columns, which are empty.
+pub fn no_columns(alloc: Global, g: &Game, count: usize) -> Result<Vec<Vec<Counters>>, AllocError>
+    ensures len { IfOk result (λ v. vec_len v ≡ count) }
+    ensures lanes { IfOk result (λ v. All (λ c. HaveLanes g.now c.items) v.items) }
+{
+    let mut columns = Vec::with_capacity(alloc, count)?;
+    for _ in 0..count {
+        columns.push(Vec::new(alloc))?;
+    }
+    Ok(columns)
+}
+
+/// The entry to look at next: the one of least sum, the latest among equals.
+pub fn next_entry(pending: &[bool], notes: &[Note]) -> Option<usize>
+    requires { length notes.now ≡ length pending.now }
+    ensures { IfSome result (λ i. (i < length pending.now) × (slice_index_or pending.now i false ≡ true)) }
+{
+    let mut best: Option<usize> = None;
+    for i in 0..pending.len() {
+        if pending[i] && comes_before(notes, i, best) {
+            best = Some(i);
+        }
+    }
+    best
+}
+
+/// Whether entry `i` has no greater sum than the best one so far, if there is one.
+fn comes_before(notes: &[Note], i: usize, best: Option<usize>) -> bool
+    requires place { i < length notes.now }
+    requires best { IfSome best (λ b. b < length notes.now) }
+{
+    match best {
+        Some(b) => notes[i].sum <= notes[b].sum,
+        None => true,
+    }
+}
+
+/// Forgets the place of an entry that is gone; those behind it have moved up. Says whether it was there.
+pub fn forget_place(answers: &mut [Option<usize>], gone: usize) -> bool {
+    let mut was_there = false;
+    for answer in answers.iter_mut() {
+        if let Some(place) = *answer {
+            if place == gone {
+                was_there = true;
+                *answer = None;
+            } else if place > gone {
+                *answer = Some(place - 1);
+            }
+        }
+    }
+    was_there
+}
+
+/// The place of an entry at or above `v`.
+pub fn find_cover(vectors: &[Counters], v: &Counters) -> Option<usize>
+    ensures some { IfSome result (λ i. i < length vectors.now) }
+    ensures none { IfNone result (Misses v.now vectors.now) }
+{
+    for i in 0..vectors.len() {
+        if v.at_or_below(&vectors[i]) {
+            return Some(i);
+        }
+    }
+    None
+}

@@ -1,0 +1,151 @@
+//! A look at one entry: whether the player can answer one step from it, and else what takes its place.
+
+ghost use Rattle.std.specs.Prelude.{◌≡◌, ◌<◌, ◌≤◌, ℕ, length, vec_len, IfOk, IfSome};
+ghost use Rattle.std.specs.List.{All};
+ghost use Rattle.game_form.specs.Vector.{IsVector};
+ghost use Rattle.game_core.specs.Front.{IsPiece};
+ghost use Rattle.game_core.specs.Known.{AreColumns};
+ghost use Rattle.game_core.specs.Tried.{HasTried};
+ghost use Rattle.game_core.specs.Plan.{AreActions};
+
+use crate::fronts::Note;
+use crate::refinements::{refine_classes, refine_options};
+use crate::searches::{answer_each, fill, find_answer};
+use counter_vec::Counters;
+use game_form::Game;
+use std::alloc::{AllocError, Global};
+use word_core::Kind;
+
+/// Looks at the entry `f`, of which something may be known: the vectors that take its place, or None where the
+/// player can answer one step from it.
+pub fn look(
+    alloc: Global,
+    g: &Game,
+    plan: &[Vec<u64>],
+    vectors: &[Counters],
+    f: &Counters,
+    note: &mut Note,
+    columns: &mut [Vec<Counters>],
+) -> Result<Option<Vec<Counters>>, AllocError>
+    requires plan { All (λ c. AreActions (length g.now.actions) c.items) plan.now }
+    requires vectors { All (IsVector g.now) vectors.now }
+    requires entry { IsVector g.now f.now }
+    requires wide { All (λ c. vec_len c ≤ vec_len note.old.answers) plan.now }
+    requires each { length plan.now ≤ vec_len note.old.answers }
+    requires columns { AreColumns g.now columns.old }
+    ensures answers { vec_len note.new.answers ≡ vec_len note.old.answers }
+    ensures columns { AreColumns g.now columns.new }
+    ensures pieces { IfOk result (λ o. IfSome o (λ v. All (IsPiece f.now) v.items)) }
+{
+    match g.kind() {
+        Kind::Second => look_second(alloc, g, plan, vectors, f, note, columns),
+        Kind::First => look_first(alloc, g, plan, vectors, f, note, columns),
+    }
+}
+
+/// For kind second: each class has an option that some entry answers.
+fn look_second(
+    alloc: Global,
+    g: &Game,
+    plan: &[Vec<u64>],
+    vectors: &[Counters],
+    f: &Counters,
+    note: &mut Note,
+    columns: &mut [Vec<Counters>],
+) -> Result<Option<Vec<Counters>>, AllocError>
+    requires plan { All (λ c. AreActions (length g.now.actions) c.items) plan.now }
+    requires vectors { All (IsVector g.now) vectors.now }
+    requires entry { IsVector g.now f.now }
+    requires each { length plan.now ≤ vec_len note.old.answers }
+    requires columns { AreColumns g.now columns.old }
+    ensures answers { vec_len note.new.answers ≡ vec_len note.old.answers }
+    ensures columns { AreColumns g.now columns.new }
+    ensures pieces { IfOk result (λ o. IfSome o (λ v. All (IsPiece f.now) v.items)) }
+{
+    for c in 0..plan.len() {
+        if note.answers[c].is_some() {
+            continue;
+        }
+        fill(alloc, g, vectors, columns, &plan[c])?;
+        match find_answer(columns, f, &plan[c]) {
+            Some(place) => note.answers[c] = Some(place),
+            None => return Ok(Some(refine_options(alloc, f, columns, &plan[c])?)),
+        }
+    }
+    Ok(None)
+}
+
+/// Fills the columns of all classes.
+fn fill_all(
+    alloc: Global,
+    g: &Game,
+    plan: &[Vec<u64>],
+    vectors: &[Counters],
+    columns: &mut [Vec<Counters>],
+) -> Result<(), AllocError>
+    requires plan { All (λ c. AreActions (length g.now.actions) c.items) plan.now }
+    requires vectors { All (IsVector g.now) vectors.now }
+    requires columns { AreColumns g.now columns.old }
+    ensures { AreColumns g.now columns.new }
+{
+    for c in 0..plan.len() {
+        fill(alloc, g, vectors, columns, &plan[c])?;
+    }
+    Ok(())
+}
+
+/// What a look at all classes says: one that works, or for each an option that no entry answers.
+#[derive(Drop)]
+enum Tried {
+    Works,
+    Fails(Vec<u64>),
+}
+
+/// Tries each class in turn.
+fn try_classes(
+    alloc: Global,
+    plan: &[Vec<u64>],
+    f: &Counters,
+    note: &mut Note,
+    columns: &[Vec<Counters>],
+) -> Result<Tried, AllocError>
+    requires plan { All (λ c. AreActions (length columns.now) c.items) plan.now }
+    requires wide { All (λ c. vec_len c ≤ vec_len note.old.answers) plan.now }
+    ensures answers { vec_len note.new.answers ≡ vec_len note.old.answers }
+    ensures tried { IfOk result (HasTried f.now columns.now (length plan.now)) }
+{
+    let mut failing = Vec::new(alloc);
+    for c in 0..plan.len() {
+        match answer_each(columns, f, &plan[c], &mut note.answers) {
+            Some(action) => failing.push(action)?,
+            None => return Ok(Tried::Works),
+        }
+    }
+    Ok(Tried::Fails(failing))
+}
+
+/// For kind first: some class has all its options answered by entries.
+fn look_first(
+    alloc: Global,
+    g: &Game,
+    plan: &[Vec<u64>],
+    vectors: &[Counters],
+    f: &Counters,
+    note: &mut Note,
+    columns: &mut [Vec<Counters>],
+) -> Result<Option<Vec<Counters>>, AllocError>
+    requires plan { All (λ c. AreActions (length g.now.actions) c.items) plan.now }
+    requires vectors { All (IsVector g.now) vectors.now }
+    requires entry { IsVector g.now f.now }
+    requires wide { All (λ c. vec_len c ≤ vec_len note.old.answers) plan.now }
+    requires columns { AreColumns g.now columns.old }
+    ensures answers { vec_len note.new.answers ≡ vec_len note.old.answers }
+    ensures columns { AreColumns g.now columns.new }
+    ensures pieces { IfOk result (λ o. IfSome o (λ v. All (IsPiece f.now) v.items)) }
+{
+    fill_all(alloc, g, plan, vectors, columns)?;
+    match try_classes(alloc, plan, f, note, columns)? {
+        Tried::Works => Ok(None),
+        Tried::Fails(failing) => Ok(Some(refine_classes(alloc, f, columns, plan, &failing)?)),
+    }
+}

@@ -1,0 +1,177 @@
+//! The maximal vectors below an entry from which a player can answer.
+
+ghost use Rattle.std.specs.Prelude.{◌≡◌, ◌<◌, ℕ, List, ℤ, true, false, length, vec_len, IfOk, not};
+ghost use Rattle.std.specs.List.{All, filter};
+ghost use Rattle.counter_vec.specs.Counters.{at_or_below, AreCounters};
+ghost use Rattle.game_core.specs.Columns.{column_at, MissesAll};
+ghost use Rattle.game_core.specs.Front.{IsPiece, Misses};
+ghost use Rattle.game_core.specs.Known.{HaveLanes};
+ghost use Rattle.game_core.specs.Plan.{AreActions};
+ghost use Rattle.game_form.specs.Game.{lanes};
+ghost use Rattle.game_form.specs.Vector.{IsVector};
+
+use antichain_list::Entry;
+use counter_vec::Counters;
+use std::alloc::{AllocError, Global};
+
+/// Drops the vectors at or below `v`.
+fn drop_below(kept: &mut Vec<Counters>, v: &Counters)
+    ensures { kept.new.items ≡ filter (λ x. not (at_or_below x v.now)) kept.old.items }
+{
+    kept.retain(|x| !x.at_or_below(v));
+}
+
+/// Adds a piece of `f` to a list of maximal ones.
+fn add_maximal(kept: &mut Vec<Counters>, piece: Counters, f: &Counters) -> Result<(), AllocError>
+    requires piece { IsPiece f.now piece }
+    requires kept { All (IsPiece f.now) kept.old.items }
+    ensures { All (IsPiece f.now) kept.new.items }
+{
+    if kept.iter().any(|x| piece.at_or_below(x)) {
+        return Ok(());
+    }
+    drop_below(kept, &piece);
+    kept.push(piece)?;
+    Ok(())
+}
+
+/// Adds what is at or below `v`, which is `f` or a piece of it, and a member of the column.
+fn add_meet(
+    alloc: Global,
+    v: &Counters,
+    p: &Counters,
+    kept: &mut Vec<Counters>,
+    f: &Counters,
+) -> Result<(), AllocError>
+    requires same { length v.now ≡ length p.now }
+    requires under { at_or_below v.now f.now ≡ true }
+    requires strict { (m : List ℤ) → at_or_below m v.now ≡ true → at_or_below m p.now ≡ true → at_or_below f.now m ≡ false }
+    requires kept { All (IsPiece f.now) kept.old.items }
+    ensures { All (IsPiece f.now) kept.new.items }
+{
+    let meet = v.meet(alloc, p)?;
+    let _ = meet.lanes();
+    add_maximal(kept, meet, f)
+}
+
+/// Adds what of `f` is at or below a member of a column that has nothing at or above `f`.
+fn add_first(
+    alloc: Global,
+    f: &Counters,
+    column: &[Counters],
+    kept: &mut Vec<Counters>,
+) -> Result<(), AllocError>
+    requires same { All (λ p. length p ≡ length f.now) column.now }
+    requires strict { Misses f.now column.now }
+    requires kept { All (IsPiece f.now) kept.old.items }
+    ensures { All (IsPiece f.now) kept.new.items }
+{
+    for j in 0..column.len() {
+        add_meet(alloc, f, &column[j], kept, f)?;
+    }
+    Ok(())
+}
+
+/// Adds what of a piece of `f` is at or below a member of a column.
+fn add_more(
+    alloc: Global,
+    piece: &Counters,
+    column: &[Counters],
+    kept: &mut Vec<Counters>,
+    f: &Counters,
+) -> Result<(), AllocError>
+    requires piece { IsPiece f.now piece.now }
+    requires same { All (λ p. length p ≡ length f.now) column.now }
+    requires kept { All (IsPiece f.now) kept.old.items }
+    ensures { All (IsPiece f.now) kept.new.items }
+{
+    for j in 0..column.len() {
+        add_meet(alloc, piece, &column[j], kept, f)?;
+    }
+    Ok(())
+}
+
+/// The maximal vectors below `f` that answer one of these options, none of which `f` answers itself.
+pub fn refine_options(
+    alloc: Global,
+    f: &Counters,
+    columns: &[Vec<Counters>],
+    options: &[u64],
+) -> Result<Vec<Counters>, AllocError>
+    requires options { AreActions (length columns.now) options.now }
+    requires same { All (λ c. All (λ p. length p ≡ length f.now) c.items) columns.now }
+    requires strict { MissesAll f.now columns.now options.now }
+    ensures { IfOk result (λ v. All (IsPiece f.now) v.items) }
+{
+    let mut kept = Vec::new(alloc);
+    for i in 0..options.len() {
+        add_first(alloc, f, &columns[options[i] as usize], &mut kept)?;
+    }
+    Ok(kept)
+}
+
+/// The maximal vectors below pieces of `f` that answer one action.
+fn narrowed(
+    alloc: Global,
+    pieces: &[Counters],
+    column: &[Counters],
+    f: &Counters,
+) -> Result<Vec<Counters>, AllocError>
+    requires pieces { All (IsPiece f.now) pieces.now }
+    requires same { All (λ p. length p ≡ length f.now) column.now }
+    ensures { IfOk result (λ v. All (IsPiece f.now) v.items) }
+{
+    let mut kept = Vec::new(alloc);
+    for i in 0..pieces.len() {
+        add_more(alloc, &pieces[i], column, &mut kept, f)?;
+    }
+    Ok(kept)
+}
+
+/// The maximal vectors below `f` that answer all of these options, of which `failing` isn't answered by `f`.
+fn refine_class(
+    alloc: Global,
+    f: &Counters,
+    columns: &[Vec<Counters>],
+    options: &[u64],
+    failing: u64,
+) -> Result<Vec<Counters>, AllocError>
+    requires options { AreActions (length columns.now) options.now }
+    requires failing { failing < length columns.now }
+    requires same { All (λ c. All (λ p. length p ≡ length f.now) c.items) columns.now }
+    requires strict { Misses f.now (column_at columns.now failing) }
+    ensures { IfOk result (λ v. All (IsPiece f.now) v.items) }
+{
+    let mut pieces = Vec::new(alloc);
+    add_first(alloc, f, &columns[failing as usize], &mut pieces)?;
+    for i in 0..options.len() {
+        pieces = narrowed(alloc, &pieces, &columns[options[i] as usize], f)?;
+    }
+    Ok(pieces)
+}
+
+/// The maximal vectors below `f` that answer all options of some class; `failing` has for each class an option that `f`
+/// doesn't answer.
+pub fn refine_classes(
+    alloc: Global,
+    f: &Counters,
+    columns: &[Vec<Counters>],
+    plan: &[Vec<u64>],
+    failing: &[u64],
+) -> Result<Vec<Counters>, AllocError>
+    requires plan { All (λ c. AreActions (length columns.now) c.items) plan.now }
+    requires each { length failing.now ≡ length plan.now }
+    requires failing { AreActions (length columns.now) failing.now }
+    requires same { All (λ c. All (λ p. length p ≡ length f.now) c.items) columns.now }
+    requires strict { MissesAll f.now columns.now failing.now }
+    ensures { IfOk result (λ v. All (IsPiece f.now) v.items) }
+{
+    let mut kept = Vec::new(alloc);
+    for c in 0..plan.len() {
+        let pieces = refine_class(alloc, f, columns, &plan[c], failing[c])?;
+        for piece in pieces {
+            add_maximal(&mut kept, piece, f)?;
+        }
+    }
+    Ok(kept)
+}

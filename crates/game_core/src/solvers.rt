@@ -1,0 +1,196 @@
+//! The game, solved by one thread.
+
+ghost use Rattle.std.specs.Prelude.{◌≡◌, ◌<◌, ◌≤◌, ℕ, ℤ, List, length, vec_len, IfOk, IfSome, OnOk, slice_index_or};
+ghost use Rattle.std.specs.List.{All};
+ghost use Rattle.game_form.specs.Game.{lanes};
+ghost use Rattle.game_form.specs.Vector.{IsVector, bound};
+ghost use Rattle.game_core.specs.Entries.{AreEntries};
+ghost use Rattle.game_core.specs.Front.{IsPiece, extent};
+ghost use Rattle.game_core.specs.Known.{AreColumns, HaveAnswers};
+ghost use Rattle.game_core.specs.Plan.{AreActions};
+ghost use Rattle.game_core.specs.Solved.{HasVectors};
+
+use crate::exchanges::{Entries, exchange};
+use crate::fronts::{Note, find_cover, next_entry, no_answers, no_columns, sum_of};
+use crate::looks::look;
+use crate::plans::plan;
+use antichain_list::{Downset, ListDownset};
+use counter_vec::Counters;
+use game_form::Game;
+use std::alloc::{AllocError, Global};
+
+/// What is known of a game that was solved.
+#[derive(Drop)]
+pub enum Solved {
+    /// The maximal vectors that the player can hold.
+    Held(ListDownset<Counters>),
+    /// The initial vector isn't held.
+    Lost,
+}
+
+/// An entry that has to be replaced, by its place, and the vectors that take its place.
+#[derive(Drop)]
+struct Found {
+    place: usize,
+    pieces: Vec<Counters>,
+}
+
+/// Looks at entries until one has to be replaced. None where the player can answer one step from each.
+#[tactic(auto, using(crate::proofs::PendingMarks::marked_falls))]
+fn settle(
+    alloc: Global,
+    g: &Game,
+    plan: &[Vec<u64>],
+    vectors: &[Counters],
+    pending: &mut [bool],
+    notes: &mut [Note],
+    columns: &mut [Vec<Counters>],
+    slots: usize,
+) -> Result<Option<Found>, AllocError>
+    requires plan { All (λ c. AreActions (length g.now.actions) c.items) plan.now }
+    requires wide { All (λ c. vec_len c ≤ slots) plan.now }
+    requires each { length plan.now ≤ slots }
+    requires vectors { All (IsVector g.now) vectors.now }
+    requires pending { length pending.old ≡ length vectors.now }
+    requires notes { length notes.old ≡ length vectors.now }
+    requires answers { HaveAnswers slots notes.old }
+    requires columns { AreColumns g.now columns.old }
+    ensures answers { HaveAnswers slots notes.new }
+    ensures columns { AreColumns g.now columns.new }
+    ensures found { IfOk result (λ o. IfSome o (λ r. (r.place < length vectors.now) × ((f : List ℤ) → f ≡ slice_index_or vectors.now r.place f → All (IsPiece f) r.pieces.items))) }
+{
+    while let Some(place) = next_entry(pending, notes) {
+        match look(
+            alloc,
+            g,
+            plan,
+            vectors,
+            &vectors[place],
+            &mut notes[place],
+            columns,
+        )? {
+            Some(pieces) => return Ok(Some(Found { place, pieces })),
+            None => pending[place] = false,
+        }
+    }
+    Ok(None)
+}
+
+/// How many answers an entry has: one for each class, or for each option of a class.
+fn slots_of(plan: &[Vec<u64>]) -> usize
+    ensures wide { All (λ c. vec_len c ≤ result) plan.now }
+    ensures each { length plan.now ≤ result }
+{
+    let mut most = plan.len();
+    for options in plan {
+        most = most.max(options.len());
+    }
+    most
+}
+
+/// Puts a vector of the game into a list of them.
+fn put_vector(list: &mut ListDownset<Counters>, v: Counters, g: &Game) -> Result<(), AllocError>
+    requires v { IsVector g.now v }
+    requires list { All (IsVector g.now) list.old }
+    ensures { All (IsVector g.now) list.new }
+{
+    match list.put(v) {
+        Ok(()) => Ok(()),
+        Err(_) => Err(AllocError),
+    }
+}
+
+/// The list of these vectors.
+fn downset_of(
+    alloc: Global,
+    vectors: Vec<Counters>,
+    g: &Game,
+) -> Result<ListDownset<Counters>, AllocError>
+    requires { All (IsVector g.now) vectors.items }
+    ensures { IfOk result (λ d. All (IsVector g.now) d) }
+{
+    let mut list = ListDownset::empty(alloc);
+    for v in vectors {
+        put_vector(&mut list, v, g)?;
+    }
+    Ok(list)
+}
+
+/// The one entry that every vector is at or below.
+fn open_entries(alloc: Global, g: &Game, slots: usize) -> Result<Entries, AllocError>
+    ensures { IfOk result (λ e. AreEntries g.now slots e.vectors.items e.pending.items e.notes.items) }
+{
+    g.known();
+    let top = Counters::top(alloc, g)?;
+    let note = Note {
+        sum: sum_of(&top),
+        answers: no_answers(alloc, slots)?,
+    };
+    Ok(Entries {
+        vectors: vec![in alloc; top]?,
+        pending: vec![in alloc; true]?,
+        notes: vec![in alloc; note]?,
+    })
+}
+
+/// Whether no entry is at or above the initial vector, where only that is asked.
+fn is_lost(vectors: &[Counters], initial: &Counters, whole: bool) -> bool {
+    !whole && find_cover(vectors, initial).is_none()
+}
+
+/// Replaces entries until the player can answer one step from each. Says whether it stopped since the initial vector was lost.
+fn refine_all(
+    alloc: Global,
+    g: &Game,
+    plan: &[Vec<u64>],
+    entries: &mut Entries,
+    columns: &mut [Vec<Counters>],
+    slots: usize,
+    whole: bool,
+) -> Result<bool, AllocError>
+    requires plan { All (λ c. AreActions (length g.now.actions) c.items) plan.now }
+    requires wide { All (λ c. vec_len c ≤ slots) plan.now }
+    requires each { length plan.now ≤ slots }
+    requires entries { AreEntries g.now slots entries.old.vectors.items entries.old.pending.items entries.old.notes.items }
+    requires columns { AreColumns g.now columns.old }
+    ensures { IfOk result (λ _. All (IsVector g.now) entries.new.vectors.items) }
+{
+    let initial = Counters::initial(alloc, g)?;
+    'refining: while let Some(found) = settle(
+        alloc,
+        g,
+        plan,
+        &entries.vectors,
+        &mut entries.pending,
+        &mut entries.notes,
+        columns,
+        slots,
+    )? {
+        exchange(alloc, g, entries, columns, found.place, found.pieces, slots)?;
+        if is_lost(&entries.vectors, &initial, whole) {
+            return Ok(true);
+        }
+    }
+    Ok(is_lost(&entries.vectors, &initial, whole))
+}
+
+/// The answer of `solve` on a game that isn't needed any more.
+pub fn solve_alone(alloc: Global, g: Game, whole: bool) -> Result<Solved, AllocError>
+    ensures { IfOk result (HasVectors g) }
+{
+    solve(alloc, &g, whole)
+}
+
+/// The maximal held vectors; where `whole` is false and the initial vector isn't held, Lost instead.
+pub fn solve(alloc: Global, g: &Game, whole: bool) -> Result<Solved, AllocError>
+    ensures { IfOk result (HasVectors g.now) }
+{
+    let plan = plan(alloc, g)?;
+    let slots = slots_of(&plan);
+    let mut entries = open_entries(alloc, g, slots)?;
+    let mut columns = no_columns(alloc, g, g.actions().len())?;
+    if refine_all(alloc, g, &plan, &mut entries, &mut columns, slots, whole)? {
+        return Ok(Solved::Lost);
+    }
+    Ok(Solved::Held(downset_of(alloc, entries.vectors, g)?))
+}
