@@ -1,4 +1,0 @@
-pub mod Faults
-pub mod Orders
-pub mod Told
-pub mod Verdicts
