@@ -1,6 +1,7 @@
 //! Whether every run of an automaton on every play of a machine has a count of at most a bound.
 #![tactic(auto)]
 
+mod choices;
 mod levels;
 mod products;
 mod sides;

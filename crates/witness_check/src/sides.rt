@@ -1,6 +1,7 @@
 //! The two sides of a cube of letters, and cubes that hold what two others hold.
 
-ghost use Rattle.std.specs.Prelude.{◌≡◌, ◌≤◌, ◌/◌, ◌%◌, ◌^◌, ◌+◌, IfSome, bit_and};
+ghost use Rattle.std.specs.Prelude.{◌≡◌, ◌≤◌, ◌/◌, ◌%◌, ◌^◌, ◌+◌, MatchOption, bit_and};
+ghost use Rattle.witness_check.specs.Product.{own_side, other_side, joined_of};
 
 use word_core::{Cube, Player};
 
@@ -25,12 +26,10 @@ fn bits_before(bits: u64, width: u32) -> u64
 }
 
 /// The parts of a cube of letters: for the player's own signals, and for the other's.
-#[tactic(auto, using(crate::proofs::CubeLaws::part_before, crate::proofs::CubeLaws::part_behind))]
 pub fn sides(player: Player, inputs: u32, cube: Cube) -> (Cube, Cube)
-    requires narrow { inputs ≤ 64 }
-    requires part { bit_and cube.want cube.care ≡ cube.want }
-    ensures own { bit_and result.0.want result.0.care ≡ result.0.want }
-    ensures other { bit_and result.1.want result.1.care ≡ result.1.want }
+    requires { inputs ≤ 64 }
+    ensures own { result.0 ≡ own_side player inputs cube }
+    ensures other { result.1 ≡ other_side player inputs cube }
 {
     let first = Cube {
         care: bits_before(cube.care, inputs),
@@ -47,11 +46,10 @@ pub fn sides(player: Player, inputs: u32, cube: Cube) -> (Cube, Cube)
 }
 
 /// The cube of what two cubes hold. None where they want different bits.
-#[tactic(auto, using(crate::proofs::CubeLaws::part_joined))]
 pub fn joined(a: Cube, b: Cube) -> Option<Cube>
-    requires first { bit_and a.want a.care ≡ a.want }
-    requires second { bit_and b.want b.care ≡ b.want }
-    ensures { IfSome result (λ c. bit_and c.want c.care ≡ c.want) }
+    ensures { MatchOption result
+        (bit_and a.want b.care ≡ bit_and b.want a.care → ⊥)
+        (λ c. (bit_and a.want b.care ≡ bit_and b.want a.care) × (c ≡ joined_of a b)) }
 {
     if a.want & b.care != b.want & a.care {
         return None;

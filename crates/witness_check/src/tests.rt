@@ -61,3 +61,48 @@ fn a_machine_that_never_grants_keeps_no_bound(rt: HostRuntime) -> Result<(), Fai
     assert!(rt; !keeps(rt.alloc(), &automaton, &machine, 10_000)?);
     Ok(())
 }
+
+/// The automaton of a grant at some time, but neither now nor next; signal 0 grants.
+fn late(alloc: Global) -> Result<Option<Automaton>, AllocError>
+    ensures { IfOk result (λ o. IfSome o (λ a. a.signals ≡ 1)) }
+{
+    let mut root = Vec::new(alloc);
+    root.push(edge(0, 0, 1, true))?;
+    root.push(edge(1, 1, 2, true))?;
+    root.push(edge(1, 0, 3, true))?;
+    let mut next = Vec::new(alloc);
+    next.push(edge(1, 1, 2, true))?;
+    let mut all = Vec::new(alloc);
+    all.push(edge(0, 0, 2, true))?;
+    let mut never = Vec::new(alloc);
+    never.push(edge(1, 0, 3, true))?;
+    let mut states = Vec::new(alloc);
+    states.push(State { edges: root })?;
+    states.push(State { edges: next })?;
+    states.push(State { edges: all })?;
+    states.push(State { edges: never })?;
+    Ok(Automaton::make(1, states, Some(0)))
+}
+
+/// The system's machine that grants from the third step on.
+fn third(alloc: Global) -> Result<Option<Machine>, AllocError>
+    ensures { IfOk result (λ o. IfSome o (λ m. (m.inputs ≡ 0) × (m.outputs ≡ 1))) }
+{
+    let mut states = Vec::new(alloc);
+    for (own, next) in [(0, 1), (0, 2), (1, 2)] {
+        let when = Cube { care: 0, want: 0 };
+        let mut lines = Vec::new(alloc);
+        lines.push(Line { when, own, next })?;
+        states.push(lines)?;
+    }
+    Ok(Machine::make(Player::System, Kind::Second, 0, 1, states).ok())
+}
+
+#[test]
+fn a_machine_that_grants_late_keeps_two(rt: HostRuntime) -> Result<(), Fail> {
+    let automaton = late(rt.alloc())?.expect(&rt, "an automaton");
+    let machine = third(rt.alloc())?.expect(&rt, "a machine");
+    assert!(rt; keeps(rt.alloc(), &automaton, &machine, 2)?);
+    assert!(rt; !keeps(rt.alloc(), &automaton, &machine, 1)?);
+    Ok(())
+}
