@@ -57,6 +57,7 @@ impl Normal {
     pub fn root(&self) -> u32
         ensures value { result ≡ self.now.root }
         ensures last { result + 1 ≡ length self.now.nodes }
+        ensures few { result < 512 }
     {
         self.root
     }

@@ -1,6 +1,9 @@
 //! The cubes of literals.
 
-ghost use Rattle.std.specs.Prelude.{◌≡◌, ◌<◌, ◌≤◌, length, All, IfOk};
+ghost use Rattle.std.specs.Prelude.{◌≡◌, ℕ, ◌<◌, ◌≤◌, length, All, IfOk};
+ghost use Rattle.ltl_form.specs.Normal.{LiteralsBelow};
+ghost use Rattle.tableau_nba.specs.Tableau.{AreLiterals};
+ghost use Rattle.word_core.specs.Cube.{IsCube};
 
 use cover_sets::NumberSet;
 use ltl_form::Node;
@@ -16,7 +19,11 @@ pub struct Literal {
 }
 
 /// The literals among the formulas.
-pub fn literals_of(alloc: Global, nodes: &[Node]) -> Result<Vec<Literal>, AllocError> {
+pub fn literals_of(alloc: Global, nodes: &[Node], signals: u32) -> Result<Vec<Literal>, AllocError>
+    requires literals { LiteralsBelow signals nodes.now }
+    requires nodes { length nodes.now ≤ 512 }
+    ensures { IfOk result (λ literals. AreLiterals signals literals.items) }
+{
     let mut literals = Vec::new(alloc);
     for (n, node) in nodes.iter().enumerate() {
         if let Node::Lit { signal, positive } = *node {
@@ -30,18 +37,36 @@ pub fn literals_of(alloc: Global, nodes: &[Node]) -> Result<Vec<Literal>, AllocE
     Ok(literals)
 }
 
-/// The letters that meet those of the literals that are in the set.
-pub fn cube_of(literals: &[Literal], set: &NumberSet) -> Cube {
-    let mut care = 0;
-    let mut want = 0;
+/// The letters that meet those of the literals that are in the set. The literals are of so many signals.
+pub fn cube_of(literals: &[Literal], signals: u32, set: &NumberSet) -> Cube
+    requires literals { AreLiterals signals literals.now }
+    requires signals { signals ≤ 64 }
+    ensures { IsCube signals result }
+{
+    let mut cube = Cube { care: 0, want: 0 };
     for literal in literals {
         if set.contains(literal.number) {
-            let bit = 1 << literal.signal;
-            care |= bit;
-            if literal.positive {
-                want |= bit;
-            }
+            cube = with_literal(&cube, literal, signals);
         }
     }
-    Cube { care, want }
+    cube
+}
+
+/// The letters of the cube that meet the literal, which takes the place of one of its signal.
+fn with_literal(cube: &Cube, literal: &Literal, signals: u32) -> Cube
+    requires cube { IsCube signals cube.now }
+    requires literal { literal.now.signal < signals }
+    requires signals { signals ≤ 64 }
+    ensures { IsCube signals result }
+{
+    let bit = 1 << literal.signal;
+    let want = if literal.positive {
+        cube.want | bit
+    } else {
+        cube.want
+    };
+    Cube {
+        care: cube.care | bit,
+        want,
+    }
 }

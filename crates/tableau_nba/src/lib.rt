@@ -5,6 +5,7 @@ mod cubes;
 mod lists;
 mod places;
 mod tableaux;
+mod walks;
 
 pub use tableaux::{TableauError, tableau};
 

@@ -5,12 +5,24 @@ ghost use Rattle.std.specs.Prelude.{◌≡◌, ◌<◌, ◌≤◌, length, IfOk}
 use cover_sets::{BitCover, CoverError, CoverTable, NumberSet};
 use indexmap::IndexSet;
 use std::alloc::Global;
+use std::marker::Model;
 
 /// The covers of each set, one list for all levels.
 #[derive(Drop)]
 pub struct Lists {
     sets: IndexSet<NumberSet>,
-    lists: Vec<Vec<BitCover>>,
+    lists: Vec<Covers>,
+}
+
+impl Model for Lists {
+    ghost use Rattle.std.specs.Prelude.{◌≤◌, length};
+    ghost use Rattle.tableau_nba.specs.Tableau.{ListsData};
+
+    ghost Value = { ListsData };
+
+    ghost view = { λ l. record { sets = l.sets.keys; lists = l.lists.items } };
+
+    ghost invariant = { λ l. length l.sets.keys ≤ length l.lists.items };
 }
 
 impl Lists {
@@ -27,17 +39,45 @@ impl Lists {
         alloc: Global,
         table: &CoverTable,
         set: &NumberSet,
-    ) -> Result<usize, CoverError> {
+    ) -> Result<usize, CoverError>
+        ensures { IfOk result (λ at. at < length self.new.lists) }
+    {
         if let Some(at) = self.sets.get_index_of(set) {
             return Ok(at);
         }
-        self.lists.push(table.of_set(alloc, set)?)?;
+        let list = table.of_set(alloc, set)?;
+        self.lists.push(Covers { list })?;
         let (at, _) = self.sets.insert_full(*set)?;
         Ok(at)
     }
 
     /// The covers at a place.
-    pub fn at(&self, at: usize) -> &[BitCover] {
-        &self.lists[at]
+    pub fn at(&self, at: usize) -> &[BitCover]
+        requires { at < length self.now.lists }
+    {
+        self.lists[at].as_slice()
+    }
+}
+
+/// The covers of one set.
+#[derive(Drop)]
+struct Covers {
+    list: Vec<BitCover>,
+}
+
+impl Model for Covers {
+    ghost use Rattle.std.specs.Prelude.{List};
+    ghost use Rattle.cover_sets.specs.declared.bit_covers.BitCover.{BitCover};
+
+    ghost Value = { List BitCover };
+
+    ghost view = { λ c. c.list.items };
+}
+
+impl Covers {
+    fn as_slice(&self) -> &[BitCover]
+        ensures { result.now ≡ self.now }
+    {
+        &self.list
     }
 }

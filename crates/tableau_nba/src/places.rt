@@ -1,5 +1,8 @@
 //! The states of a tableau: sets of formulas, with levels.
 
+ghost use Rattle.std.specs.Prelude.{◌≡◌, ◌<◌, ◌≤◌, length, All, IfOk};
+ghost use Rattle.tableau_nba.specs.Tableau.{AreUntils};
+
 use cover_sets::{BitCover, NumberSet};
 use ltl_form::Node;
 use std::alloc::{AllocError, Global};
@@ -21,7 +24,9 @@ pub struct Step {
 /// The step from a level by a cover, where `untils` are the numbers of the untils, ascending.
 ///
 /// The level rises as long as the next until isn't put off. Past the last one it is 0 again, and the edge is marked.
-pub fn step_from(untils: &[u32], level: u32, cover: &BitCover) -> Step {
+pub fn step_from(untils: &[u32], level: u32, cover: &BitCover) -> Step
+    requires { AreUntils untils.now }
+{
     let reached = risen(untils, level, cover);
     let marked = reached as usize == untils.len();
     let level = if marked { 0 } else { reached };
@@ -35,7 +40,9 @@ pub fn step_from(untils: &[u32], level: u32, cover: &BitCover) -> Step {
 }
 
 /// The level up to which the untils are met.
-fn risen(untils: &[u32], level: u32, cover: &BitCover) -> u32 {
+fn risen(untils: &[u32], level: u32, cover: &BitCover) -> u32
+    requires { AreUntils untils.now }
+{
     for at in level as usize..untils.len() {
         if cover.postponed.contains(untils[at]) {
             return at as u32;
@@ -45,7 +52,10 @@ fn risen(untils: &[u32], level: u32, cover: &BitCover) -> u32 {
 }
 
 /// The untils among the formulas, ascending.
-pub fn untils_of(alloc: Global, nodes: &[Node]) -> Result<Vec<u32>, AllocError> {
+pub fn untils_of(alloc: Global, nodes: &[Node]) -> Result<Vec<u32>, AllocError>
+    requires { length nodes.now ≤ 512 }
+    ensures { IfOk result (λ untils. AreUntils untils.items) }
+{
     let mut untils = Vec::new(alloc);
     for (n, node) in nodes.iter().enumerate() {
         if let Node::Until(_, _) = *node {

@@ -1,0 +1,32 @@
+-- What the walk of a tableau looks up.
+use Rattle.std.specs.Prelude.{ℕ, ◌<◌, ◌≤◌, List, length}
+use Rattle.std.specs.List.{All}
+use Rattle.cover_sets.specs.Cover.{TableData}
+use Rattle.cover_sets.specs.declared.bit_covers.BitCover.{BitCover}
+use Rattle.cover_sets.specs.declared.number_sets.NumberSet.{NumberSet}
+use Rattle.tableau_nba.specs.declared.cubes.Literal.{Literal}
+
+-- literals of signals below `signals`, with numbers below 512
+abbrev pub AreLiterals : ℕ → List Literal → Type 0
+AreLiterals signals literals = All (λ l. (l.number < 512) × (l.signal < signals)) literals
+
+-- at most 512 numbers below 512
+pub record AreUntils (untils : List ℕ) : Type 0 where
+  pub few : length untils ≤ 512
+  pub numbers : All (λ u. u < 512) untils
+
+-- sets of formulas, and the covers of each of them
+pub record ListsData : Type 0 where
+  pub sets : List NumberSet
+  pub lists : List (List BitCover)
+
+pub record WalkData : Type 0 where
+  pub table : TableData
+  pub literals : List Literal
+  pub untils : List ℕ
+  pub signals : ℕ
+
+pub record IsWalk (literals : List Literal) (untils : List ℕ) (signals : ℕ) : Type 0 where
+  pub narrow : signals ≤ 64
+  pub literals_fit : AreLiterals signals literals
+  pub untils_fit : AreUntils untils
