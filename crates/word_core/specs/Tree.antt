@@ -46,3 +46,13 @@ LabelHas P (Some (Split signal low high)) = Unit {0}
 -- every label has a property
 abbrev pub AllLabels : (ℕ → Type 0) → List Branch → Type 0
 AllLabels P nodes = (place : ℕ) → LabelHas P (slice_get nodes place)
+
+-- a node tests no signal from the width on
+abbrev pub TestsBelow : ℕ → Option Branch → Type 0
+TestsBelow width None = Unit {0}
+TestsBelow width (Some (Leaf label)) = Unit {0}
+TestsBelow width (Some (Split signal low high)) = signal < width
+
+-- all nodes test signals below the width
+abbrev pub AllTestBelow : ℕ → List Branch → Type 0
+AllTestBelow width nodes = (place : ℕ) → TestsBelow width (slice_get nodes place)

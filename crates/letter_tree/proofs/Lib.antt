@@ -1,0 +1,11 @@
+pub mod Branches
+pub mod Copies
+pub mod CubeBits
+pub mod CutNodes
+pub mod Diagrams
+pub mod Joints
+pub mod Lists
+pub mod Notes
+pub mod SignalChoices
+pub mod SplitLines
+pub mod SumSteps

@@ -1,0 +1,31 @@
+-- A tree cut after its first signals.
+use Rattle.std.specs.Prelude.{◌≡◌, ℕ, ◌+◌, ◌<◌, ◌≤◌, List, [], ◌∷◌, length, slice_get, slice_index, Some, if◌then◌else◌, nat_lt}
+use Rattle.word_core.specs.declared.branches.Branch.{Branch}
+use Rattle.word_core.specs.declared.branches.Branch.TheVariants.{Leaf, Split}
+use Rattle.word_core.specs.Tree.{label_at, label_of}
+use Rattle.letter_tree.specs.Diagram.{IsRooted, top}
+
+-- a node that tests a signal below the width, and else a leaf with its place
+abbrev pub stopped : ℕ → ℕ → Branch → Branch
+stopped width place (Leaf label) = Leaf place
+stopped width place (Split signal low high) = if nat_lt signal width then Split signal low high else Leaf place
+
+abbrev pub all_stopped : ℕ → ℕ → List Branch → List Branch
+all_stopped width place [] = []
+all_stopped width place (n ∷ ns) = stopped width place n ∷ all_stopped width (place + 1) ns
+
+-- a node with another label
+abbrev pub relabelled : List ℕ → Branch → Branch
+relabelled numbers (Leaf label) = Leaf (slice_index numbers label)
+relabelled numbers (Split signal low high) = Split signal low high
+
+-- a place behind the first signals
+pub record IsEnd (nodes : List Branch) (whole width place : ℕ) : Type 0 where
+  pub within : place < length nodes
+  pub above : width ≤ top whole (slice_get nodes place)
+
+-- a tree over the first signals, whose labels are the places to which they lead
+pub record IsFront (nodes : List Branch) (whole width : ℕ) (out : List Branch) : Type 0 where
+  pub rooted : IsRooted width out
+  pub ends : (place label : ℕ) → slice_get out place ≡ Some (Leaf label) → IsEnd nodes whole width label
+  pub label : (bits : ℕ) → label_at nodes (label_of out bits) bits ≡ label_of nodes bits

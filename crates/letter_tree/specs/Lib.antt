@@ -1,0 +1,10 @@
+pub mod Choice
+pub mod Copy
+pub mod Cubed
+pub mod Cut
+pub mod Diagram
+pub mod Join
+pub mod Listed
+pub mod Memo
+pub mod Splitting
+pub mod Sums
