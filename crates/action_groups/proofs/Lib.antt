@@ -1,0 +1,4 @@
+pub mod Makes
+pub mod Pairs
+pub mod Powers
+pub mod RowSteps

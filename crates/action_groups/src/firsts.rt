@@ -1,0 +1,220 @@
+//! The valuations of the side that moves first, split until the letters are.
+
+ghost use Rattle.std.specs.Prelude.{◌≡◌, ◌<◌, ◌≤◌, ◌+◌, ◌-◌, ◌^◌, ℕ, length, vec_len, IfOk, OnOk};
+ghost use Rattle.std.specs.List.{All};
+ghost use Rattle.action_groups.specs.Part.{AreNodes, ArePairs};
+ghost use Rattle.action_groups.specs.First.{AreOptions};
+ghost use Rattle.action_groups.specs.Way.{IsWay, IsStep};
+
+use crate::groups::{Letters, split_rest};
+use crate::orders::Order;
+use crate::parts::{add_part, push_leaf, push_split};
+use crate::ways::{Way, is_tested, restricted};
+use indexmap::IndexSet;
+use std::alloc::{AllocError, Global};
+use word_core::Branch;
+
+/// The nodes of the tree of first valuations, and the lists of options that are its labels' meanings; and the letters
+/// that were met, each with its label.
+#[derive(Drop)]
+pub struct Firsts {
+    pub nodes: Vec<Branch>,
+    pub options: IndexSet<Vec<(u64, u64)>>,
+    pub met: Vec<(u64, u64)>,
+}
+
+/// Of the pairs of each number the first.
+fn first_of_each(
+    alloc: Global,
+    pairs: &[(u64, u64)],
+    width: u32,
+    count: usize,
+) -> Result<Vec<(u64, u64)>, AllocError>
+    requires pairs { ArePairs width count pairs.now }
+    requires some { 0 < length pairs.now }
+    ensures pairs { IfOk result (λ v. ArePairs width count v.items) }
+    ensures some { IfOk result (λ v. 0 < length v.items) }
+{
+    let mut seen = vec![in alloc; false; count]?;
+    let mut kept = Vec::new(alloc);
+    kept.push(pairs[0])?;
+    seen[pairs[0].1 as usize] = true;
+    for i in 1..pairs.len() {
+        let pair = pairs[i];
+        if !seen[pair.1 as usize] {
+            seen[pair.1 as usize] = true;
+            kept.push(pair)?;
+        }
+    }
+    Ok(kept)
+}
+
+/// Notes the letters of a first valuation with these options.
+fn meet_letters(
+    order: Order,
+    first: u64,
+    options: &[(u64, u64)],
+    width: u32,
+    count: usize,
+    met: &mut Vec<(u64, u64)>,
+) -> Result<(), AllocError>
+    requires options { ArePairs width count options.now }
+    requires met { ArePairs 64 count met.old.items }
+    ensures met { ArePairs 64 count met.new.items }
+    ensures grows { OnOk result (length met.new.items ≡ length met.old.items + length options.now) }
+{
+    for (value, label) in options {
+        met.push((order.letter(first, *value), *label))?;
+    }
+    Ok(())
+}
+
+/// Puts a leaf for the first valuations with these options. Its label is given back.
+fn put_options(
+    alloc: Global,
+    mut pairs: Vec<(u64, u64)>,
+    order: Order,
+    first: u64,
+    width: u32,
+    second: u32,
+    count: usize,
+    firsts: &mut Firsts,
+) -> Result<u64, AllocError>
+    requires pairs { ArePairs second count pairs.items }
+    requires some { 0 < length pairs.items }
+    requires nodes { AreNodes width (length firsts.old.options.keys) firsts.old.nodes.items }
+    requires options { AreOptions second count firsts.old.options.keys }
+    requires met { ArePairs 64 count firsts.old.met.items }
+    ensures nodes { OnOk result (AreNodes width (length firsts.new.options.keys) firsts.new.nodes.items) }
+    ensures options { OnOk result (AreOptions second count firsts.new.options.keys) }
+    ensures met { OnOk result (ArePairs 64 count firsts.new.met.items) }
+    ensures more { OnOk result (length firsts.old.options.keys ≤ length firsts.new.options.keys) }
+    ensures grows { OnOk result (length firsts.old.nodes.items < length firsts.new.nodes.items) }
+    ensures some { OnOk result (0 < length firsts.new.met.items) }
+    ensures label { IfOk result (λ l. l < length firsts.new.options.keys) }
+{
+    pairs.sort()?;
+    let options = first_of_each(alloc, &pairs, second, count)?;
+    meet_letters(order, first, &options, second, count, &mut firsts.met)?;
+    let (label, _) = firsts.options.insert_full(options)?;
+    push_leaf(&mut firsts.nodes, label as u64, width, firsts.options.len())?;
+    Ok(label as u64)
+}
+
+/// Splits on the first mover's signals from a place of the order on, of which there are `width`; those before it are as in `first`.
+/// The last node is the tree of these edges; the pairs have each of its labels, with valuations of these signals that
+/// have it, the least among them.
+#[tactic(auto, using(crate::proofs::Pairs::pairs_weaker, crate::proofs::Pairs::pairs_at, crate::proofs::Pairs::options_weaker))]
+pub fn split_first(
+    alloc: Global,
+    ways: &[Way],
+    count: usize,
+    order: Order,
+    width: u32,
+    place: u32,
+    first: u64,
+    letters: &mut Letters,
+    firsts: &mut Firsts,
+) -> Result<Vec<(u64, u64)>, AllocError>
+    requires place { place ≤ width }
+    requires width { width ≤ order.inputs + order.outputs }
+    requires ways { All (IsWay count) ways.now }
+    requires letter_nodes { AreNodes (order.inputs + order.outputs) (length letters.old.effects.keys) letters.old.nodes.items }
+    requires effects { All (λ e. All (IsStep count) e.items) letters.old.effects.keys }
+    requires nodes { AreNodes width (length firsts.old.options.keys) firsts.old.nodes.items }
+    requires options { AreOptions (order.inputs + order.outputs - width) (length letters.old.effects.keys) firsts.old.options.keys }
+    requires met { ArePairs 64 (length letters.old.effects.keys) firsts.old.met.items }
+    ensures letter_nodes { OnOk result (AreNodes (order.inputs + order.outputs) (length letters.new.effects.keys) letters.new.nodes.items) }
+    ensures effects { OnOk result (All (λ e. All (IsStep count) e.items) letters.new.effects.keys) }
+    ensures letters_grow { OnOk result (length letters.old.nodes.items < length letters.new.nodes.items) }
+    ensures more_effects { OnOk result (length letters.old.effects.keys ≤ length letters.new.effects.keys) }
+    ensures nodes { OnOk result (AreNodes width (length firsts.new.options.keys) firsts.new.nodes.items) }
+    ensures options { OnOk result (AreOptions (order.inputs + order.outputs - width) (length letters.new.effects.keys) firsts.new.options.keys) }
+    ensures met { OnOk result (ArePairs 64 (length letters.new.effects.keys) firsts.new.met.items) }
+    ensures more { OnOk result (length firsts.old.options.keys ≤ length firsts.new.options.keys) }
+    ensures grows { OnOk result (length firsts.old.nodes.items < length firsts.new.nodes.items) }
+    ensures met_some { OnOk result (0 < length firsts.new.met.items) }
+    ensures pairs { IfOk result (λ v. ArePairs (width - place) (length firsts.new.options.keys) v.items) }
+    ensures some { IfOk result (λ v. 0 < length v.items) }
+{
+    let whole = order.width();
+    if place >= width {
+        let rest = split_rest(alloc, ways, count, order, place, letters)?;
+        let label = put_options(
+            alloc,
+            rest,
+            order,
+            first,
+            width,
+            whole - width,
+            letters.effects.len(),
+            firsts,
+        )?;
+        return Ok(vec![in alloc; (0, label)]?);
+    }
+    let signal = order.signal(place);
+    let mut pairs = Vec::new(alloc);
+    if !is_tested(ways, signal) {
+        let rest = split_first(
+            alloc,
+            ways,
+            count,
+            order,
+            width,
+            place + 1,
+            first,
+            letters,
+            firsts,
+        )?;
+        add_part(
+            &mut pairs,
+            &rest,
+            0,
+            width - place - 1,
+            firsts.options.len(),
+        )?;
+        return Ok(pairs);
+    }
+    let unset = restricted(alloc, ways, signal, false, count)?;
+    let low = split_first(
+        alloc,
+        &unset,
+        count,
+        order,
+        width,
+        place + 1,
+        first,
+        letters,
+        firsts,
+    )?;
+    let (letter_at, at) = (letters.nodes.len() - 1, firsts.nodes.len() - 1);
+    let set = restricted(alloc, ways, signal, true, count)?;
+    let high = split_first(
+        alloc,
+        &set,
+        count,
+        order,
+        width,
+        place + 1,
+        first | 1 << place,
+        letters,
+        firsts,
+    )?;
+    push_split(
+        &mut letters.nodes,
+        place,
+        letter_at,
+        whole,
+        letters.effects.len(),
+    )?;
+    push_split(&mut firsts.nodes, place, at, width, firsts.options.len())?;
+    add_part(&mut pairs, &low, 0, width - place - 1, firsts.options.len())?;
+    add_part(
+        &mut pairs,
+        &high,
+        1,
+        width - place - 1,
+        firsts.options.len(),
+    )?;
+    Ok(pairs)
+}

@@ -1,0 +1,254 @@
+//! Games of automata.
+
+ghost use Rattle.std.specs.Prelude.{◌≡◌, ◌<◌, ◌≤◌, ◌+◌, ◌-◌, ◌^◌, ◌≤ℤ◌, ℕ, pos, length, vec_len, IfOk, OnOk};
+ghost use Rattle.std.specs.List.{All};
+ghost use Rattle.action_groups.specs.First.{AreOptions};
+ghost use Rattle.action_groups.specs.Part.{AreNodes, ArePairs};
+ghost use Rattle.action_groups.specs.Rank.{IsRanked};
+ghost use Rattle.action_groups.specs.Row.{AreRows};
+ghost use Rattle.action_groups.specs.Way.{IsStep};
+ghost use Rattle.action_groups.specs.Listing.{IsListedClass};
+ghost use Rattle.action_groups.specs.Parts.{AreParts};
+ghost use Rattle.game_form.specs.Game.{of_first, lanes};
+ghost use Rattle.word_core.specs.Machine.{own_width, other_width};
+
+use crate::firsts::{Firsts, split_first};
+use crate::groups::Letters;
+use crate::orders::Order;
+use crate::ranks::{Ranked, rank, relabelled};
+use crate::rows::action_of;
+use crate::ways::ways_of;
+use game_form::{Action, Class, Game};
+use indexmap::IndexSet;
+use std::alloc::{AllocError, Global};
+use word_core::{Automaton, Branch, Kind, Player};
+
+/// The number of signals of the side that moves first.
+fn first_width(player: Player, kind: Kind, inputs: u32, outputs: u32) -> u32
+    ensures value { result ≡ of_first kind (own_width player inputs outputs) (other_width player inputs outputs) }
+    ensures within { result ≤ inputs + outputs }
+{
+    match (player, kind) {
+        (Player::System, Kind::Second) => inputs,
+        (Player::Environment, Kind::First) => inputs,
+        (Player::System, Kind::First) => outputs,
+        (Player::Environment, Kind::Second) => outputs,
+    }
+}
+
+/// Whether the side that moves first chooses the inputs.
+fn has_inputs_first(player: Player, kind: Kind) -> bool {
+    match (player, kind) {
+        (Player::System, Kind::Second) => true,
+        (Player::Environment, Kind::First) => true,
+        (Player::System, Kind::First) => false,
+        (Player::Environment, Kind::Second) => false,
+    }
+}
+
+/// The game of an automaton for a player of this kind, with the bound `k`, from 0 to 10,000.
+///
+/// The automaton's signals, the inputs and the outputs, are at most 40.
+
+pub fn make_game(
+    alloc: Global,
+    a: &Automaton,
+    player: Player,
+    kind: Kind,
+    inputs: u32,
+    outputs: u32,
+    k: i16,
+) -> Result<Game, AllocError>
+    requires signals { a.now.signals ≡ inputs + outputs }
+    requires narrow { inputs + outputs ≤ 40 }
+    requires low { pos 0 ≤ℤ k }
+    requires high { k ≤ℤ pos 10000 }
+    ensures player { IfOk result (λ g. g.player ≡ player) }
+    ensures kind { IfOk result (λ g. g.kind ≡ kind) }
+    ensures inputs { IfOk result (λ g. g.inputs ≡ inputs) }
+    ensures outputs { IfOk result (λ g. g.outputs ≡ outputs) }
+    ensures k { IfOk result (λ g. g.k ≡ k) }
+    ensures init { IfOk result (λ g. g.init ≡ a.now.init) }
+    ensures lanes { IfOk result (λ g. lanes g ≡ length a.now.states) }
+{
+    let width = first_width(player, kind, inputs, outputs);
+    let order = Order {
+        inputs,
+        outputs,
+        inputs_first: has_inputs_first(player, kind),
+    };
+    let parts = parts_of(alloc, a, order, width)?;
+    Ok(Game::make(
+        player,
+        kind,
+        inputs,
+        outputs,
+        k,
+        a.init(),
+        parts.actions,
+        parts.classes,
+        parts.letters,
+        parts.firsts,
+    ))
+}
+
+/// The parts of a game.
+#[derive(Drop)]
+pub struct Parts {
+    pub actions: Vec<Action>,
+    pub classes: Vec<Class>,
+    pub letters: Vec<Branch>,
+    pub firsts: Vec<Branch>,
+}
+
+/// The actions and classes of the letters, and their trees; `width` signals are the first side's.
+fn parts_of(alloc: Global, a: &Automaton, order: Order, width: u32) -> Result<Parts, AllocError>
+    requires { width ≤ order.inputs + order.outputs }
+    ensures { IfOk result (AreParts (length a.now.states) (order.inputs + order.outputs) width) }
+{
+    let count = a.states().len();
+    let mut letters = Letters {
+        nodes: Vec::new(alloc),
+        effects: IndexSet::new(alloc),
+    };
+    let mut firsts = Firsts {
+        nodes: Vec::new(alloc),
+        options: IndexSet::new(alloc),
+        met: Vec::new(alloc),
+    };
+    let ways = ways_of(alloc, a)?;
+    let pairs = split_first(
+        alloc,
+        &ways,
+        count,
+        order,
+        width,
+        0,
+        0,
+        &mut letters,
+        &mut firsts,
+    )?;
+    numbered(alloc, letters, firsts, pairs, order, width, count)
+}
+
+/// The parts with actions and classes in order.
+fn numbered(
+    alloc: Global,
+    letters: Letters,
+    firsts: Firsts,
+    pairs: Vec<(u64, u64)>,
+    order: Order,
+    width: u32,
+    count: usize,
+) -> Result<Parts, AllocError>
+    requires width { width ≤ order.inputs + order.outputs }
+    requires narrow { count < 2 ^ 32 }
+    requires letter_nodes { AreNodes (order.inputs + order.outputs) (length letters.effects.keys) letters.nodes.items }
+    requires some_letter { 0 < length letters.nodes.items }
+    requires effects { All (λ e. All (IsStep count) e.items) letters.effects.keys }
+    requires nodes { AreNodes width (length firsts.options.keys) firsts.nodes.items }
+    requires some_first { 0 < length firsts.nodes.items }
+    requires options { AreOptions (order.inputs + order.outputs - width) (length letters.effects.keys) firsts.options.keys }
+    requires met { ArePairs 64 (length letters.effects.keys) firsts.met.items }
+    requires some_met { 0 < length firsts.met.items }
+    requires pairs { ArePairs width (length firsts.options.keys) pairs.items }
+    requires some { 0 < length pairs.items }
+    ensures { IfOk result (AreParts count (order.inputs + order.outputs) width) }
+{
+    let Firsts {
+        nodes,
+        options,
+        met,
+    } = firsts;
+    let whole = order.width();
+    let labels = rank(alloc, met, 64, letters.effects.len())?;
+    let classes = rank(alloc, pairs, width, options.len())?;
+    Ok(Parts {
+        actions: actions(alloc, &letters, &labels, count)?,
+        classes: class_list(
+            alloc,
+            &options,
+            &classes,
+            &labels,
+            width,
+            whole - width,
+            letters.effects.len(),
+        )?,
+        letters: relabelled(
+            alloc,
+            &letters.nodes,
+            &labels.numbers,
+            whole,
+            labels.order.len(),
+        )?,
+        firsts: relabelled(alloc, &nodes, &classes.numbers, width, classes.order.len())?,
+    })
+}
+
+/// The actions in the order of their least letters.
+fn actions(
+    alloc: Global,
+    letters: &Letters,
+    labels: &Ranked,
+    count: usize,
+) -> Result<Vec<Action>, AllocError>
+    requires labels { IsRanked 64 (length letters.now.effects.keys) labels.now }
+    requires effects { All (λ e. All (IsStep count) e.items) letters.now.effects.keys }
+    requires narrow { count < 2 ^ 32 }
+    ensures len { IfOk result (λ v. length v.items ≡ length labels.now.order.items) }
+    ensures rows { IfOk result (λ v. All (AreRows count) v.items) }
+{
+    let mut actions = Vec::with_capacity(alloc, labels.order.len())?;
+    for (_, label) in &labels.order {
+        let steps = &letters.effects.as_slice()[*label as usize];
+        actions.push(action_of(alloc, steps, count)?)?;
+    }
+    Ok(actions)
+}
+
+/// The options with the numbers of their actions.
+fn options_of(
+    alloc: Global,
+    options: &[(u64, u64)],
+    numbers: &[u64],
+    second: u32,
+    count: usize,
+) -> Result<Vec<(u64, u64)>, AllocError>
+    requires options { ArePairs second (length numbers.now) options.now }
+    requires numbers { All (λ n. n < count) numbers.now }
+    ensures len { IfOk result (λ v. length v.items ≡ length options.now) }
+    ensures options { IfOk result (λ v. All (λ o. (o.0 < count) × (o.1 < 2 ^ second)) v.items) }
+{
+    let mut out = Vec::with_capacity(alloc, options.len())?;
+    for (value, label) in options {
+        out.push((numbers[*label as usize], *value))?;
+    }
+    Ok(out)
+}
+
+/// The classes in the order of their least valuations.
+fn class_list(
+    alloc: Global,
+    lists: &IndexSet<Vec<(u64, u64)>>,
+    classes: &Ranked,
+    labels: &Ranked,
+    width: u32,
+    second: u32,
+    count: usize,
+) -> Result<Vec<Class>, AllocError>
+    requires classes { IsRanked width (length lists.now.keys) classes.now }
+    requires labels { IsRanked 64 count labels.now }
+    requires options { AreOptions second count lists.now.keys }
+    ensures len { IfOk result (λ v. length v.items ≡ length classes.now.order.items) }
+    ensures classes { IfOk result (λ v. All (IsListedClass width second (length labels.now.order.items)) v.items) }
+{
+    let mut out = Vec::with_capacity(alloc, classes.order.len())?;
+    for (least, label) in &classes.order {
+        let options = &lists.as_slice()[*label as usize];
+        out.push(Class {
+            least: *least,
+            options: options_of(alloc, options, &labels.numbers, second, labels.order.len())?,
+        })?;
+    }
+    Ok(out)
+}

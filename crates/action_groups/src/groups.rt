@@ -1,0 +1,113 @@
+//! The letters of an automaton, split signal by signal until each edge is decided.
+
+ghost use Rattle.std.specs.Prelude.{◌≡◌, ◌<◌, ◌≤◌, ◌+◌, ◌-◌, ◌^◌, ℕ, length, vec_len, IfOk, OnOk};
+ghost use Rattle.std.specs.List.{All};
+ghost use Rattle.action_groups.specs.Part.{AreNodes, ArePairs};
+ghost use Rattle.action_groups.specs.Way.{IsWay, IsStep};
+
+use crate::orders::Order;
+use crate::parts::{add_part, push_leaf, push_split};
+use crate::ways::{Way, effect, is_tested, restricted};
+use indexmap::IndexSet;
+use std::alloc::{AllocError, Global};
+use word_core::Branch;
+
+/// What edges do together: steps from state to state, each with its mark.
+pub type Effect = Vec<(u32, u32, bool)>;
+
+/// The nodes of the tree of letters, and the effects that are its labels' meanings.
+#[derive(Drop)]
+pub struct Letters {
+    pub nodes: Vec<Branch>,
+    pub effects: IndexSet<Effect>,
+}
+
+/// Puts a leaf for what these edges do. Its label is given back.
+fn put_effect(
+    alloc: Global,
+    ways: &[Way],
+    count: usize,
+    width: u32,
+    letters: &mut Letters,
+) -> Result<u64, AllocError>
+    requires ways { All (IsWay count) ways.now }
+    requires nodes { AreNodes width (length letters.old.effects.keys) letters.old.nodes.items }
+    requires effects { All (λ e. All (IsStep count) e.items) letters.old.effects.keys }
+    ensures nodes { OnOk result (AreNodes width (length letters.new.effects.keys) letters.new.nodes.items) }
+    ensures effects { OnOk result (All (λ e. All (IsStep count) e.items) letters.new.effects.keys) }
+    ensures more { OnOk result (length letters.old.effects.keys ≤ length letters.new.effects.keys) }
+    ensures grows { OnOk result (length letters.old.nodes.items < length letters.new.nodes.items) }
+    ensures label { IfOk result (λ l. l < length letters.new.effects.keys) }
+{
+    let (label, _) = letters.effects.insert_full(effect(alloc, ways, count)?)?;
+    push_leaf(
+        &mut letters.nodes,
+        label as u64,
+        width,
+        letters.effects.len(),
+    )?;
+    Ok(label as u64)
+}
+
+/// Splits on the signals from a place of the order on. The last node is the tree of these edges; the pairs have each
+/// of its labels, with valuations of these signals that have it, the least among them.
+#[tactic(auto, using(crate::proofs::Pairs::pairs_weaker, crate::proofs::Pairs::pairs_at))]
+pub fn split_rest(
+    alloc: Global,
+    ways: &[Way],
+    count: usize,
+    order: Order,
+    place: u32,
+    letters: &mut Letters,
+) -> Result<Vec<(u64, u64)>, AllocError>
+    requires place { place ≤ order.inputs + order.outputs }
+    requires ways { All (IsWay count) ways.now }
+    requires nodes { AreNodes (order.inputs + order.outputs) (length letters.old.effects.keys) letters.old.nodes.items }
+    requires effects { All (λ e. All (IsStep count) e.items) letters.old.effects.keys }
+    ensures nodes { OnOk result (AreNodes (order.inputs + order.outputs) (length letters.new.effects.keys) letters.new.nodes.items) }
+    ensures effects { OnOk result (All (λ e. All (IsStep count) e.items) letters.new.effects.keys) }
+    ensures more { OnOk result (length letters.old.effects.keys ≤ length letters.new.effects.keys) }
+    ensures grows { OnOk result (length letters.old.nodes.items < length letters.new.nodes.items) }
+    ensures pairs { IfOk result (λ v. ArePairs (order.inputs + order.outputs - place) (length letters.new.effects.keys) v.items) }
+    ensures some { IfOk result (λ v. 0 < length v.items) }
+{
+    let width = order.width();
+    if place >= width {
+        let label = put_effect(alloc, ways, count, width, letters)?;
+        return Ok(vec![in alloc; (0, label)]?);
+    }
+    let signal = order.signal(place);
+    let mut pairs = Vec::new(alloc);
+    if !is_tested(ways, signal) {
+        let rest = split_rest(alloc, ways, count, order, place + 1, letters)?;
+        add_part(
+            &mut pairs,
+            &rest,
+            0,
+            width - place - 1,
+            letters.effects.len(),
+        )?;
+        return Ok(pairs);
+    }
+    let unset = restricted(alloc, ways, signal, false, count)?;
+    let low = split_rest(alloc, &unset, count, order, place + 1, letters)?;
+    let at = letters.nodes.len() - 1;
+    let set = restricted(alloc, ways, signal, true, count)?;
+    let high = split_rest(alloc, &set, count, order, place + 1, letters)?;
+    push_split(&mut letters.nodes, place, at, width, letters.effects.len())?;
+    add_part(
+        &mut pairs,
+        &low,
+        0,
+        width - place - 1,
+        letters.effects.len(),
+    )?;
+    add_part(
+        &mut pairs,
+        &high,
+        1,
+        width - place - 1,
+        letters.effects.len(),
+    )?;
+    Ok(pairs)
+}

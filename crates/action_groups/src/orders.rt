@@ -1,0 +1,47 @@
+//! The order in which a tree tests the signals: those of the side that moves first come first.
+
+ghost use Rattle.std.specs.Prelude.{◌≡◌, ◌<◌, ◌≤◌, ◌+◌, ◌^◌};
+
+/// How many inputs and outputs there are, and whether the inputs are tested first.
+#[derive(Clone, Copy)]
+pub struct Order {
+    pub inputs: u32,
+    pub outputs: u32,
+    pub inputs_first: bool,
+    ghost narrow: { inputs + outputs ≤ 40 },
+}
+
+impl Order {
+    /// The number of signals.
+    pub fn width(self) -> u32
+        ensures value { result ≡ self.inputs + self.outputs }
+        ensures narrow { result ≤ 40 }
+    {
+        self.inputs + self.outputs
+    }
+
+    /// The signal of a letter that a tree tests at this place.
+    pub fn signal(self, place: u32) -> u32
+        requires { place < self.inputs + self.outputs }
+        ensures { result < self.inputs + self.outputs }
+    {
+        if self.inputs_first {
+            place
+        } else if place < self.outputs {
+            self.inputs + place
+        } else {
+            place - self.outputs
+        }
+    }
+
+    /// The letter of two parts, that of the side that moves first and that of the other.
+    pub fn letter(self, first: u64, second: u64) -> u64
+        ensures { result < 2 ^ 64 }
+    {
+        if self.inputs_first {
+            first.wrapping_add(second.wrapping_shl(self.inputs))
+        } else {
+            second.wrapping_add(first.wrapping_shl(self.inputs))
+        }
+    }
+}

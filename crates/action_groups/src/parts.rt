@@ -1,0 +1,69 @@
+//! Trees of nodes, and the lists of least valuations that come with them.
+
+ghost use Rattle.std.specs.Prelude.{◌≡◌, ◌<◌, ◌≤◌, ◌+◌, ◌*◌, ◌^◌, ℕ, length, vec_len, IfOk, OnOk};
+ghost use Rattle.std.specs.List.{All};
+ghost use Rattle.action_groups.specs.Part.{AreNodes, ArePairs};
+
+use std::alloc::{AllocError, Global};
+use word_core::Branch;
+
+/// Puts a leaf behind the nodes.
+pub fn push_leaf(
+    nodes: &mut Vec<Branch>,
+    label: u64,
+    width: u32,
+    count: usize,
+) -> Result<(), AllocError>
+    requires label { label < count }
+    requires nodes { AreNodes width count nodes.old.items }
+    ensures nodes { AreNodes width count nodes.new.items }
+    ensures grows { OnOk result (length nodes.new.items ≡ length nodes.old.items + 1) }
+{
+    nodes.push(Branch::Leaf(label))?;
+    Ok(())
+}
+
+/// Puts a split behind its parts, the second of which is the last node.
+pub fn push_split(
+    nodes: &mut Vec<Branch>,
+    signal: u32,
+    low: usize,
+    width: u32,
+    count: usize,
+) -> Result<(), AllocError>
+    requires signal { signal < width }
+    requires low { low < length nodes.old.items }
+    requires nodes { AreNodes width count nodes.old.items }
+    ensures nodes { AreNodes width count nodes.new.items }
+    ensures grows { OnOk result (length nodes.new.items ≡ length nodes.old.items + 1) }
+{
+    let high = nodes.len() as u64 - 1;
+    nodes.push(Branch::Split {
+        signal,
+        low: low as u64,
+        high,
+    })?;
+    Ok(())
+}
+
+/// Adds the pairs of a part, with the value of a signal before the other signals.
+#[tactic(auto, using(crate::proofs::Powers::power_more, crate::proofs::Powers::power_small))]
+pub fn add_part(
+    pairs: &mut Vec<(u64, u64)>,
+    part: &[(u64, u64)],
+    bit: u64,
+    rest: u32,
+    count: usize,
+) -> Result<(), AllocError>
+    requires bit { bit ≤ 1 }
+    requires rest { rest < 40 }
+    requires part { ArePairs rest count part.now }
+    requires pairs { ArePairs (rest + 1) count pairs.old.items }
+    ensures pairs { ArePairs (rest + 1) count pairs.new.items }
+    ensures grows { OnOk result (length pairs.new.items ≡ length pairs.old.items + length part.now) }
+{
+    for (value, number) in part {
+        pairs.push((2 * *value + bit, *number))?;
+    }
+    Ok(())
+}
