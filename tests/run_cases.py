@@ -1,7 +1,7 @@
 #!/usr/bin/env python3
 """Run the program over case files, and compare status, standard output and standard error.
 
-    run_cases.py [--seconds S] [--jobs N] [--usage FILE] [--without WORD].. PROGRAM -- CASES.json..
+    run_cases.py [--seconds S] [--jobs N] [--usage FILE] [--without=WORD].. PROGRAM -- CASES.json..
 
 A case file is a list of cases. A case has
 
