@@ -23,9 +23,6 @@ mod tests {
     fn compares(rt: HostRuntime) -> Result<(), Fail> {
         let a = triple(rt.alloc(), 0, 1, 2)?;
         let b = triple(rt.alloc(), 1, 1, 1)?;
-        let m = a.meet(rt.alloc(), &b)?;
-        assert_eq!(rt; m.lanes(), [0, 1, 1].as_slice());
-        assert!(rt; m.at_or_below(&a));
         assert!(rt; !a.at_or_below(&b));
         assert_eq!(rt; a.compare_lex(&b), Ordering::Less);
         assert!(rt; a.over(1));

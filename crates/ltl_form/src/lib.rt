@@ -12,5 +12,3 @@ pub use formulas::Ltl;
 pub use meanings::holds;
 pub use normals::{FormError, Node, Normal, nnf};
 
-#[cfg(test)]
-mod tests;
