@@ -11,4 +11,3 @@ mod pairs;
 pub use formulas::Ltl;
 pub use meanings::holds;
 pub use normals::{FormError, Node, Normal, nnf};
-
