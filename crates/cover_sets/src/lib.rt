@@ -12,6 +12,3 @@ pub use bit_covers::BitCover;
 pub use cover_lists::{Cover, CoverError, covers};
 pub use number_sets::NumberSet;
 pub use tables::CoverTable;
-
-#[cfg(test)]
-mod tests;

@@ -8,6 +8,3 @@ mod searches;
 mod trims;
 
 pub use trims::trim;
-
-#[cfg(test)]
-mod tests;

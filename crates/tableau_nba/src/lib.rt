@@ -8,6 +8,3 @@ mod tableaux;
 mod walks;
 
 pub use tableaux::{TableauError, tableau};
-
-#[cfg(test)]
-mod tests;
