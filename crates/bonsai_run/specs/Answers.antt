@@ -28,14 +28,15 @@ won_text names bound m = verdict_word m.player ++ codes "\n" ++ bound_line bound
 abbrev pub unknown_text : ℕ → List ℕ
 unknown_text bound = codes "UNKNOWN\n" ++ bound_line bound
 
--- numbers with one space between, or a dot
-abbrev pub numbers_after : List ℤ → List ℕ
-numbers_after [] = codes "\n"
-numbers_after (x ∷ xs) = codes " " ++ signed_decimal x ++ numbers_after xs
+-- numbers, each behind a space
+abbrev pub spaced : List ℤ → List ℕ
+spaced [] = []
+spaced (x ∷ xs) = codes " " ++ signed_decimal x ++ spaced xs
 
+-- the numbers of a vector with one space between, or a dot
 abbrev pub vector_line : List ℤ → List ℕ
 vector_line [] = codes ".\n"
-vector_line (x ∷ xs) = signed_decimal x ++ numbers_after xs
+vector_line (x ∷ xs) = signed_decimal x ++ spaced xs ++ codes "\n"
 
 abbrev pub vector_lines : List (List ℤ) → List ℕ
 vector_lines [] = []
@@ -54,7 +55,7 @@ abbrev pub unknown_comment : ℕ → List ℕ
 unknown_comment bound = codes "// UNKNOWN bound " ++ decimal bound ++ codes "\n"
 
 -- an answer: its status and its text
-data pub IsAnswer : ℕ → List ℕ → Type 0 where
+pub data IsAnswer : ℕ → List ℕ → Type 0 where
   won : (names : Names) (bound : ℕ) (m : MachineData) → IsAnswer (verdict_status m.player) (won_text names bound m)
   unknown : (bound : ℕ) → IsAnswer 30 (unknown_text bound)
   downset : (player : Player) (bound lanes : ℕ) (vectors : List (List ℤ)) → IsAnswer 0 (downset_text player bound lanes vectors)

@@ -62,7 +62,7 @@ named name other Other = other
 
 -- a line that begins with a name and tells a number
 abbrev pub numbered_text : List ℕ → List ℕ → ℕ → List ℕ → List ℕ
-numbered_text name middle number tail = codes "bonsai: " ++ name ++ middle ++ decimal number ++ codes ": " ++ tail ++ codes "\n"
+numbered_text name middle number tail = (codes "bonsai: " ++ (name ++ middle)) ++ (decimal number ++ (codes ": " ++ (tail ++ codes "\n")))
 
 -- the text of a fault of an order with these two names
 abbrev pub fault_text : List ℕ → List ℕ → Fault → List ℕ

@@ -1,7 +1,7 @@
 //! Answers, made before their first byte is written.
 
 ghost use Rattle.std.specs.Prelude.{◌≡◌, ◌++◌, codes, decimal, IfOk, OnOk};
-ghost use Rattle.bonsai_run.specs.Answers.{IsAnswer, bound_line, verdict_word, verdict_status, won_text};
+ghost use Rattle.bonsai_run.specs.Answers.{IsAnswer, bound_line, verdict_word, verdict_status, won_text, unknown_text};
 
 use crate::verdicts::Verdict;
 use itoa::Buffer;
@@ -27,11 +27,8 @@ pub fn word_answer(alloc: Global, status: u8, word: &[u8]) -> Result<Answer, All
 }
 
 /// The answer with a verdict, its bound and its machine.
-pub fn verdict_answer(
-    alloc: Global,
-    verdict: &Verdict,
-    names: &Names,
-) -> Result<Answer, AllocError>
+#[tactic(auto, using(crate::proofs::Answering::is_won, crate::proofs::Answering::is_unknown))]
+pub fn verdict_answer(alloc: Global, verdict: &Verdict, names: &Names) -> Result<Answer, AllocError>
     ensures { IfOk result (λ a. IsAnswer a.status a.text.items) }
 {
     match verdict {
@@ -60,7 +57,8 @@ fn won_answer(
 }
 
 fn unknown_answer(alloc: Global, bound: u32) -> Result<Answer, AllocError>
-    ensures { IfOk result (λ a. IsAnswer a.status a.text.items) }
+    ensures status { IfOk result (λ a. a.status ≡ 30) }
+    ensures text { IfOk result (λ a. a.text.items ≡ unknown_text bound) }
 {
     let mut text = Vec::from_slice(alloc, b"UNKNOWN\n")?;
     push_bound_line(&mut text, bound)?;

@@ -4,7 +4,7 @@ ghost use Rattle.std.specs.Prelude.{◌≡◌, ◌++◌, ◌≤◌, List, ℤ, c
 ghost use Rattle.std.specs.Fmt.{signed_decimal};
 ghost use Rattle.ltl_form.specs.Formula.{signals_below};
 ghost use Rattle.tlsf_basic.specs.Specification.{signal_count};
-ghost use Rattle.bonsai_run.specs.Answers.{IsAnswer, downset_text, vector_line, vector_lines, numbers_after};
+ghost use Rattle.bonsai_run.specs.Answers.{IsAnswer, downset_text, vector_line, vector_lines, spaced};
 ghost use Rattle.bonsai_run.specs.Faults.{IsInner};
 
 use crate::answers::{Answer, push_number};
@@ -36,12 +36,24 @@ pub fn downset_answer(
     let a = automaton(alloc, spec, player)?;
     let g = game(alloc, &a, &spec.names, player, bound)?;
     match solve(alloc, &g, true)? {
-        Solved::Held(list) => {
-            let text = downset_text(alloc, player, bound, g.lanes(), &list)?;
-            Ok(Answer { status: 0, text })
-        }
+        Solved::Held(list) => Ok(held_answer(alloc, player, bound, g.lanes(), &list)?),
         Solved::Lost => unreachable!(),
     }
+}
+
+/// The answer of these maximal vectors.
+#[tactic(auto, using(crate::proofs::Answering::is_downset))]
+fn held_answer(
+    alloc: Global,
+    player: Player,
+    bound: u32,
+    lanes: usize,
+    list: &ListDownset<Counters>,
+) -> Result<Answer, AllocError>
+    ensures { IfOk result (λ a. IsAnswer a.status a.text.items) }
+{
+    let text = downset_text(alloc, player, bound, lanes, list)?;
+    Ok(Answer { status: 0, text })
 }
 
 fn downset_text(
@@ -82,19 +94,19 @@ fn push_vector(text: &mut Vec<u8>, lanes: &[i16]) -> Result<(), AllocError>
         [] => text.extend_from_slice(b".\n"),
         [first, rest @ ..] => {
             push_signed(text, *first)?;
-            push_rest(text, rest)
+            push_spaced(text, rest)?;
+            text.extend_from_slice(b"\n")
         }
     }
 }
 
-fn push_rest(text: &mut Vec<u8>, lanes: &[i16]) -> Result<(), AllocError>
-    ensures { OnOk result (text.new.items ≡ text.old.items ++ numbers_after lanes.now) }
+fn push_spaced(text: &mut Vec<u8>, lanes: &[i16]) -> Result<(), AllocError>
+    ensures { OnOk result (text.new.items ≡ text.old.items ++ spaced lanes.now) }
 {
     for lane in lanes {
         text.push(b' ')?;
         push_signed(text, *lane)?;
     }
-    text.push(b'\n')?;
     Ok(())
 }
 

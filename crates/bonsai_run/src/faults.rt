@@ -39,10 +39,11 @@ pub enum Fault {
 }
 
 /// The usage text.
-pub const USAGE: &[u8] = b"usage: bonsai synth NAME [--bound K] [--first K] [--step S] [--workers N] [--as-written]\n       bonsai downset NAME --player system|environment --bound K [--as-written]\n       bonsai check NAME MACHINE --bound K [--as-written]\n       bonsai eval NAME LASSO [--as-written]\n       bonsai gen N [--workers N]\n";
+pub const USAGE: &[u8] =
+    b"usage: bonsai synth NAME [--bound K] [--first K] [--step S] [--workers N] [--as-written]\n       bonsai downset NAME --player system|environment --bound K [--as-written]\n       bonsai check NAME MACHINE --bound K [--as-written]\n       bonsai eval NAME LASSO [--as-written]\n       bonsai gen N [--workers N]\n";
 
 /// One of two names.
-pub fn named<'a>(name: &'a str, other: &'a str, source: Source) -> &'a str
+pub fn named<'a>(name: &'a [u8], other: &'a [u8], source: Source) -> &'a [u8]
     ensures { result.now ≡ named name.now other.now source }
 {
     match source {

@@ -1,6 +1,7 @@
 //! The text of an arbiter with its answer.
 
 ghost use Rattle.std.specs.Prelude.{◌≡◌, ◌++◌, ◌≤◌, IfOk, IfErr, OnOk};
+ghost use Rattle.spec_gen.specs.Arbiter.{arbiter_text};
 ghost use Rattle.bonsai_run.specs.Answers.{IsAnswer, won_comment, unknown_comment};
 ghost use Rattle.bonsai_run.specs.Faults.{IsInner};
 
@@ -27,13 +28,43 @@ pub fn generated_answer(alloc: Global, clients: u32) -> Result<Answer, Fault>
     ensures answer { IfOk result (λ a. IsAnswer a.status a.text.items) }
     ensures fault { IfErr result IsInner }
 {
-    let mut text = arbiter(alloc, clients)?;
+    let text = arbiter(alloc, clients)?;
     let spec = read_spec(alloc, &text, false)?;
     let verdict = decide(alloc, &spec, DEFAULT_BOUNDS)?;
+    Ok(commented(text, clients, &verdict)?)
+}
+
+/// The answer of an arbiter's text with a comment on the verdict.
+fn commented(text: Vec<u8>, clients: u32, verdict: &Verdict) -> Result<Answer, AllocError>
+    requires { text.items ≡ arbiter_text clients }
+    ensures { IfOk result (λ a. IsAnswer a.status a.text.items) }
+{
     match verdict {
-        Verdict::Won { bound, machine } => push_won(&mut text, bound, &machine)?,
-        Verdict::Unknown { bound } => push_unknown(&mut text, bound)?,
+        Verdict::Won { bound, machine } => commented_won(text, clients, *bound, machine),
+        Verdict::Unknown { bound } => commented_unknown(text, clients, *bound),
     }
+}
+
+fn commented_won(
+    text: Vec<u8>,
+    _clients: u32,
+    bound: u32,
+    machine: &Machine,
+) -> Result<Answer, AllocError>
+    requires { text.items ≡ arbiter_text _clients }
+    ensures { IfOk result (λ a. IsAnswer a.status a.text.items) }
+{
+    let mut text = text;
+    push_won(&mut text, bound, machine)?;
+    Ok(Answer { status: 0, text })
+}
+
+fn commented_unknown(text: Vec<u8>, _clients: u32, bound: u32) -> Result<Answer, AllocError>
+    requires { text.items ≡ arbiter_text _clients }
+    ensures { IfOk result (λ a. IsAnswer a.status a.text.items) }
+{
+    let mut text = text;
+    push_unknown(&mut text, bound)?;
     Ok(Answer { status: 0, text })
 }
 

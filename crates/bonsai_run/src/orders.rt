@@ -26,18 +26,38 @@ pub fn answer_of<H: Shelf>(alloc: Global, order: &Order, shelf: &mut H) -> Resul
     ensures blames { IfErr result (Blames (H.faults shelf.old) (H.faults shelf.new) (H.last_failed shelf.new) (first_name order.now) (second_name order.now)) }
 {
     match order {
-        Order::Synth { name, bounds, as_written, .. } => {
-            synth(alloc, shelf, name.as_str(), *bounds, *as_written)
+        Order::Synth {
+            name,
+            bounds,
+            as_written,
+            ..
+        } => { synth(alloc, shelf, name.as_str(), *bounds, *as_written) }
+        Order::Downset {
+            name,
+            player,
+            bound,
+            as_written,
+        } => { downset(alloc, shelf, name.as_str(), *player, *bound, *as_written) }
+        Order::Check {
+            name,
+            machine,
+            bound,
+            as_written,
+        } => {
+            check(
+                alloc,
+                shelf,
+                name.as_str(),
+                machine.as_str(),
+                *bound,
+                *as_written,
+            )
         }
-        Order::Downset { name, player, bound, as_written } => {
-            downset(alloc, shelf, name.as_str(), *player, *bound, *as_written)
-        }
-        Order::Check { name, machine, bound, as_written } => {
-            check(alloc, shelf, name.as_str(), machine.as_str(), *bound, *as_written)
-        }
-        Order::Eval { name, lasso, as_written } => {
-            eval(alloc, shelf, name.as_str(), lasso.as_str(), *as_written)
-        }
+        Order::Eval {
+            name,
+            lasso,
+            as_written,
+        } => { eval(alloc, shelf, name.as_str(), lasso.as_str(), *as_written) }
         Order::Gen { clients, .. } => generated_answer(alloc, *clients),
     }
 }

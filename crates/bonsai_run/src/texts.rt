@@ -5,7 +5,7 @@ ghost use Rattle.ltl_form.specs.Formula.{signals_below};
 ghost use Rattle.tlsf_basic.specs.Specification.{signal_count};
 ghost use Rattle.bonsai_run.specs.Faults.{Blames};
 
-use crate::faults::{Fault, Source, named};
+use crate::faults::{Fault, Source};
 use shelf_io::{Shelf, ShelfError};
 use std::alloc::Global;
 use tlsf_basic::{Spec, read_spec};
@@ -25,7 +25,10 @@ pub fn text_of<H: Shelf>(
     ensures blames { IfErr result (Blames (H.faults shelf.old) (H.faults shelf.new) (H.last_failed shelf.new) name.now other.now) }
     ensures later { H.faults shelf.old ≤ H.faults shelf.new }
 {
-    let asked = named(name, other, source);
+    let asked = match source {
+        Source::Specification => name,
+        Source::Other => other,
+    };
     match shelf.fetch(alloc, asked, MOST_BYTES + 1) {
         Ok(text) => {
             if text.len() > MOST_BYTES {

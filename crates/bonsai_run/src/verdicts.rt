@@ -35,7 +35,13 @@ pub fn decide(alloc: Global, spec: &Spec, bounds: Bounds) -> Result<Verdict, Fau
     let pair = automata(alloc, spec)?;
     let names = &spec.names;
     let system = game(alloc, &pair.system, names, Player::System, bounds.first)?;
-    let environment = game(alloc, &pair.environment, names, Player::Environment, bounds.first)?;
+    let environment = game(
+        alloc,
+        &pair.environment,
+        names,
+        Player::Environment,
+        bounds.first,
+    )?;
     Ok(try_bounds(alloc, system, environment, bounds)?)
 }
 

@@ -18,9 +18,9 @@ kind_of Environment Mealy = First
 kind_of Environment Moore = Second
 
 -- the game of an automaton over these names for a player, with a bound
-pub record IsGameOf (a : AutomatonData) (names : Names) (player : Player) (k : ℕ) (g : GameData) : Type 0 where
-  pub player : g.player ≡ player
-  pub kind : g.kind ≡ kind_of player names.target
+pub record IsGameOf (a : AutomatonData) (names : Names) (who : Player) (k : ℕ) (g : GameData) : Type 0 where
+  pub player : g.player ≡ who
+  pub kind : g.kind ≡ kind_of who names.target
   pub inputs : g.inputs ≡ length names.inputs.items
   pub outputs : g.outputs ≡ length names.outputs.items
   pub bound : g.k ≡ pos k

@@ -100,8 +100,8 @@ fn signals_of(names: &Names) -> u32
 }
 
 /// The normal form of what a player must avoid: the negated formula for the system, the formula for
-/// the environment.
-fn normal_of(alloc: Global, s: &Spec, player: Player) -> Result<Normal, FormError>
+/// the environment. The specification has at most 64 signals, each the number of a name.
+pub fn normal_of(alloc: Global, s: &Spec, player: Player) -> Result<Normal, FormError>
     requires few { signal_count s.now.names ≤ 64 }
     requires numbered { signals_below (signal_count s.now.names) s.now.formula ≡ true }
     ensures { IfOk result (λ f. LiteralsBelow (signal_count s.now.names) f.nodes) }

@@ -7,4 +7,4 @@ mod games;
 
 pub use bounds::Bounds;
 pub use errors::GameError;
-pub use games::{Pair, automata, automaton, game, kind_of};
+pub use games::{Pair, automata, automaton, game, kind_of, normal_of};
