@@ -1,0 +1,5 @@
+pub mod Faults
+pub mod Leading
+pub mod Made
+pub mod Restricted
+pub mod Walked

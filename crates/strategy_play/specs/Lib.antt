@@ -1,0 +1,6 @@
+pub mod Answer
+pub mod Lead
+pub mod Line
+pub mod Restriction
+pub mod State
+pub mod Walk
