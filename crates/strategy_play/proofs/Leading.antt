@@ -20,12 +20,12 @@ use Rattle.strategy_play.specs.Lead.{place_above, next_at, lead, AreNexts, LeadB
 module _ {X : Type 0} (t : X → Bool) where
   -- the first that passes, in what is left of a list
   pub position_more : (xs : List X) (i : ℕ) (x : X) → i < length xs → x ≡ get_or xs i x → t x ≡ false → position_from t i (drop i xs) ≡ position_from t (i + 1) (drop (i + 1) xs)
-  position_more xs i x lt is no =
-      ap (position_from t i) (from_place xs i x lt is) ∙ ap (λ b. cond b (Some i) (position_from t (i + 1) (drop (i + 1) xs))) no
+  position_more xs i x lt is fails =
+      ap (position_from t i) (from_place xs i x lt is) ∙ ap (λ b. cond b (Some i) (position_from t (i + 1) (drop (i + 1) xs))) fails
 
   pub position_here : (xs : List X) (i : ℕ) (x : X) → i < length xs → x ≡ get_or xs i x → t x ≡ true → position_from t i (drop i xs) ≡ Some i
-  position_here xs i x lt is yes =
-      ap (position_from t i) (from_place xs i x lt is) ∙ ap (λ b. cond b (Some i) (position_from t (i + 1) (drop (i + 1) xs))) yes
+  position_here xs i x lt is holds =
+      ap (position_from t i) (from_place xs i x lt is) ∙ ap (λ b. cond b (Some i) (position_from t (i + 1) (drop (i + 1) xs))) holds
 
   pub position_end : (xs : List X) (i : ℕ) → length xs ≤ i → position_from t i (drop i xs) ≡ None
   position_end xs i past = ap (position_from t i) (drop_all i xs past)
@@ -157,7 +157,7 @@ passes t n (x ∷ xs) i j d e at = go (t x) refl (λ k e' at'. passes t (n + 1) 
     go false here later is (suc k) at' = later k is (omega arith)
 
 pub leader_leads : (g : GameData) (next : ℕ → Option ℕ) (c : ℕ) → leader next g.classes ≡ Some c → all_lead next (class_at g c).options ≡ true
-leader_leads g next c e = passes (λ c. all_lead next c.options) 0 g.classes c c no_class e refl
+leader_leads g next c e = passes (λ c. all_lead next c.options) 0 g.classes c c no_class e (omega arith)
 
 -- the ranges of the picks
 pub picks_within : (g : GameData) (nexts : List (Option ℕ)) (picks : List (ℕ × ℕ)) → IsGame g → ArePicks g (lead nexts) picks → (count c : ℕ) → c < length g.classes → LeadBelow count nexts

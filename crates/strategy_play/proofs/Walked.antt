@@ -50,19 +50,19 @@ all_open (suc n) = ap suc (all_open n)
 none_numbered : (count i : ℕ) → lead (replicate count None) i ≡ None
 none_numbered count i = elim (cases_lt i count) [
   | inl lt ↦ get_or-replicate count i None None lt
-  | inr ge ↦ get_or_past (replicate count None) i None (let n = length-replicate count (None {ℕ}) in omega arith)
+  | inr ge ↦ get_or_past (replicate count None) i None (let n = length-replicate {A = Option ℕ} count None in omega arith)
 ]
 
 -- the walk that begins
 pub walk_begins : (count first : ℕ) → first < count → IsWalk count (set (replicate count None) first (Some 0)) (first ∷ [])
 walk_begins count first lt =
-    let n : length (replicate count (None {ℕ})) ≡ count = length-replicate count (None {ℕ}) in
+    let n : length (replicate {A = Option ℕ} count None) ≡ count = length-replicate {A = Option ℕ} count None in
     walk_push count first (replicate count None) []
     (record {
       counted = n;
       entries = All-nil (λ e. e < count);
       numbered = λ i m e. absurd (let none = none_numbered count i in cc);
-      balance = all_open count;
+      balance = omega (arith, all_open count);
     })
     (omega arith) (none_numbered count first)
 

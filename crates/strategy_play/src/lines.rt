@@ -33,6 +33,7 @@ pub fn lines_of(
     requires some { 0 < length d.now }
     ensures { IfOk result (λ v. IsState g.now (length d.now) v.items) }
 {
+    g.known();
     let nexts = next_entries(alloc, g, d, f)?;
     match g.kind() {
         Kind::First => first_lines(alloc, g, &nexts),

@@ -61,7 +61,7 @@ fn states(alloc: Global, g: &Game, d: &ListDownset<Counters>) -> Result<Vec<Vec<
 {
     let mut walk = begun(alloc, d.len(), first_entry(alloc, g, d)?)?;
     let mut states = Vec::new(alloc);
-    while states.len() < walk.order.len() {
+    'walking: while states.len() < walk.order.len() {
         let entry = d.entry(walk.order[states.len()] as usize);
         let lines = lines_of(alloc, g, d, entry)?;
         states.push(renumbered(alloc, &mut walk, &lines)?)?;

@@ -1,6 +1,6 @@
 //! States numbered as they are met.
 
-ghost use Rattle.std.specs.Prelude.{◌≡◌, ◌<◌, ◌∷◌, [], length, IfOk, OnOk, slice_index};
+ghost use Rattle.std.specs.Prelude.{◌≡◌, ◌<◌, ◌∷◌, [], length, replicate, None, IfOk, OnOk, slice_index};
 ghost use Rattle.std.specs.List.{All, AllZip};
 ghost use Rattle.strategy_play.specs.Walk.{IsWalk, Extends, IsRenumbered};
 
@@ -20,10 +20,21 @@ pub fn begun(alloc: Global, count: usize, first: u64) -> Result<Walk, AllocError
     ensures walk { IfOk result (λ w. IsWalk count w.numbers.items w.order.items) }
     ensures order { IfOk result (λ w. w.order.items ≡ first ∷ []) }
 {
-    let mut numbers = vec![in alloc; None; count]?;
+    let mut numbers = no_numbers(alloc, count)?;
     numbers[first as usize] = Some(0);
     let order = vec![in alloc; first]?;
     Ok(Walk { numbers, order })
+}
+
+/// So many entries without a number.
+fn no_numbers(alloc: Global, count: usize) -> Result<Vec<Option<u64>>, AllocError>
+    ensures { IfOk result (λ v. v.items ≡ replicate count None) }
+{
+    let mut numbers = Vec::with_capacity(alloc, count)?;
+    for _ in 0..count {
+        numbers.push(None)?;
+    }
+    Ok(numbers)
 }
 
 /// The number of an entry, which becomes the next state where it isn't one yet.

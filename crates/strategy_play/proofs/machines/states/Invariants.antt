@@ -4,13 +4,13 @@ use Rattle.strategy_play.specs.State.{IsState}
 use Rattle.strategy_play.specs.Walk.{IsWalk}
 use Rattle.strategy_play.proofs.machines.states.Given as goal
 
-abbrev pub invariant-loop-states : goal.invariant-loop-states
-invariant-loop-states l = record {
+abbrev pub invariant-walking : goal.invariant-walking
+invariant-walking l = record {
   walk : IsWalk (length l.d) l.walk.numbers.items l.walk.order.items;
   some : 0 < length l.walk.order.items;
   seen : length l.states.items ≤ length l.walk.order.items;
   states : All (IsState l.g (length l.walk.order.items)) (map (λ v. v.items) l.states.items);
 }
 
-abbrev pub decreases-loop-states : goal.decreases-loop-states
-decreases-loop-states l = length l.d - length l.states.items
+abbrev pub decreases-walking : goal.decreases-walking
+decreases-walking l = length l.d - length l.states.items
