@@ -51,16 +51,16 @@ any_same p q [] h = refl
 any_same p q (x ∷ xs) h =
     ap (λ b. b || list_any p xs) (All-head (λ x. p x ≡ q x) x xs h) ∙ ap (λ b. q x || b) (any_same p q xs (All-tail (λ x. p x ≡ q x) x xs h))
 
-all_same : {X : Type 0} (p q : X → Bool) (xs : List X) → All (λ x. p x ≡ q x) xs → list_all p xs ≡ list_all q xs
+pub all_same : {X : Type 0} (p q : X → Bool) (xs : List X) → All (λ x. p x ≡ q x) xs → list_all p xs ≡ list_all q xs
 all_same p q [] h = refl
 all_same p q (x ∷ xs) h =
     ap (λ b. b && list_all p xs) (All-head (λ x. p x ≡ q x) x xs h) ∙ ap (λ b. q x && b) (all_same p q xs (All-tail (λ x. p x ≡ q x) x xs h))
 
-and_left : (a b : Bool) → (a && b) ≡ true → a ≡ true
+pub and_left : (a b : Bool) → (a && b) ≡ true → a ≡ true
 and_left true b h = refl
 and_left false b h = absurd (cc)
 
-and_right : (a b : Bool) → (a && b) ≡ true → b ≡ true
+pub and_right : (a b : Bool) → (a && b) ≡ true → b ≡ true
 and_right true b h = h
 and_right false b h = absurd (cc)
 

@@ -1,5 +1,9 @@
+pub mod Answered
 pub mod Faults
 pub mod Leading
 pub mod Made
+pub mod Numbered
+pub mod Played
 pub mod Restricted
+pub mod Splits
 pub mod Walked

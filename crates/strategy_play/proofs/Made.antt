@@ -12,18 +12,15 @@ use Rattle.word_core.specs.declared.machines.Line.{Line}
 use Rattle.word_core.specs.Cube.{IsCube, holds}
 use Rattle.word_core.specs.Machine.{choice, IsLine, IsDecided, HasOneOwn}
 use Rattle.word_core.proofs.TreeLabels.{label_of-all}
-use Rattle.letter_tree.specs.Splitting.{pattern_of}
-use Rattle.letter_tree.specs.Diagram.{TreeData}
+use Rattle.letter_tree.specs.Splitting.{pattern_of, splitting}
+use Rattle.letter_tree.specs.Diagram.{TreeData, IsRooted}
 use Rattle.word_core.specs.Tree.{label_of, label_at}
 use Rattle.game_form.specs.Game.{GameData, ClassData, IsGame, IsClass, own_width, other_width, class_at, option_at, of_first, of_second, class_of, action_of}
 use Rattle.strategy_play.specs.Lead.{lead, LeadBelow, ArePicks, AreTargets}
 use Rattle.strategy_play.specs.Line.{line_by_class, line_by_action}
 use Rattle.strategy_play.specs.State.{IsState}
 use Rattle.strategy_play.proofs.Leading.{picks_within}
-
--- the least valuation that a cube holds is one of its signals
-pub want_within : (width : ℕ) (c : Cube) → IsCube width c → c.want < 2 ^ width
-want_within width c is = omega (arith, is.0, is.1, and_le_r c.want c.care)
+use Rattle.strategy_play.proofs.Splits.{want_within}
 
 module _ (f : Cube × ℕ → Line) (same : (p : Cube × ℕ) → (f p).when ≡ p.0) where
   chosen : (cubes : List (Cube × ℕ)) (x l : ℕ) → pattern_of cubes x ≡ Some l → IsSome (choice (map f cubes) x)
@@ -81,6 +78,8 @@ first_state g own targets cubes label count own_in below cubes_in split = record
 -- the lines of a tree of the other's valuations, as the code has them
 pub record AreCubes (g : GameData) (tree : TreeData) (cubes : List (Cube × ℕ)) : Type 0 where
   pub width : tree.width ≡ other_width g
+  pub rooted : IsRooted tree.width tree.nodes
+  pub lines : cubes ≡ splitting tree.nodes
   pub within : All (λ p. IsCube tree.width p.0) cubes
   pub split : (x : ℕ) → pattern_of cubes x ≡ Some (label_of tree.nodes x)
 

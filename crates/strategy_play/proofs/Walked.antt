@@ -5,7 +5,7 @@ use Rattle.std.specs.List.{All, AllZip}
 use Rattle.std.proofs.lemmas.Bool.{cases_eq, cases_lt}
 use Rattle.std.proofs.lemmas.List.{get_or-set_same, get_or-set_other, length-set, length_push, get_or_push, get_or_append_left, get_or-replicate, get_or_past, length-replicate}
 use Rattle.std.proofs.lemmas.List.Elements.{All-nil, All-cons, All-head, All-tail, All-push, AllZip-get_or, All-weaker, length_all_zip}
-use Rattle.std.proofs.lemmas.Option.{same_Some}
+use Rattle.std.proofs.lemmas.Option.{same_Some, none-some}
 use Rattle.word_core.specs.declared.names.Kind.TheVariants.{First}
 use Rattle.word_core.specs.declared.machines.Line.{Line}
 use Rattle.word_core.specs.Cube.{IsCube, holds}
@@ -40,6 +40,14 @@ walk_push count entry numbers order is lt none =
         | inr elsewhere ↦ (let old = is.numbered i n (sym (get_or-set_other numbers entry i (Some (length order)) None elsewhere) ∙ e) in
             (omega (arith, old.0), get_or_append_left order (entry ∷ []) 0 n old.0 ∙ old.1))
       ];
+      ordered = λ n less. elim (cases_lt n (length order)) [
+        | inl before ↦ (let old = is.ordered n before in
+            let at : get_or (order ++ entry ∷ []) n 0 ≡ get_or order n 0 = get_or_append_left order (entry ∷ []) 0 n before in
+            let apart : get_or order n 0 ≡ entry → ⊥ = λ same. none-some n (sym none ∙ ap (lead numbers) (sym same) ∙ old) in
+            ap (lead (set numbers entry (Some (length order)))) at ∙ get_or-set_other numbers entry (get_or order n 0) (Some (length order)) None apart ∙ old)
+        | inr after ↦ (let here : length order ≡ n = omega arith in
+            ap (lead (set numbers entry (Some (length order)))) (get_or_push order entry 0 n here) ∙ get_or-set_same numbers entry (Some (length order)) None lt ∙ ap Some here)
+      ];
       balance = omega (arith, more, falls, is.balance);
     }
 
@@ -62,6 +70,7 @@ walk_begins count first lt =
       counted = n;
       entries = All-nil (λ e. e < count);
       numbered = λ i m e. absurd (let none = none_numbered count i in cc);
+      ordered = λ m less. absurd (omega arith);
       balance = omega (arith, all_open count);
     })
     (omega arith) (none_numbered count first)
@@ -134,3 +143,7 @@ state_grows g a b lines less state = record {
 
 pub states_grow : (g : GameData) (a b : ℕ) (states : List (List Line)) → a ≤ b → All (IsState g a) states → All (IsState g b) states
 states_grow g a b states less = All-weaker (IsState g a) (IsState g b) (λ lines. state_grows g a b lines less) states
+
+-- no entry has two numbers
+pub walk_once : (count : ℕ) (numbers : List (Option ℕ)) (order : List ℕ) → IsWalk count numbers order → (i j : ℕ) → i < length order → j < length order → get_or order i 0 ≡ get_or order j 0 → i ≡ j
+walk_once count numbers order is i j in_i in_j same = same_Some i j (sym (is.ordered i in_i) ∙ ap (lead numbers) same ∙ is.ordered j in_j)

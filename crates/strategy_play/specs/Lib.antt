@@ -3,4 +3,5 @@ pub mod Lead
 pub mod Line
 pub mod Restriction
 pub mod State
+pub mod Strategy
 pub mod Walk

@@ -15,6 +15,7 @@ pub record IsWalk (count : ℕ) (numbers : List (Option ℕ)) (order : List ℕ)
   pub counted : length numbers ≡ count
   pub entries : All (λ e. e < count) order
   pub numbered : (i n : ℕ) → lead numbers i ≡ Some n → (n < length order) × (slice_index order n ≡ i)
+  pub ordered : (n : ℕ) → n < length order → lead numbers (slice_index order n) ≡ Some n
   pub balance : length order + open_count numbers ≡ count
 
 -- some entries were put behind the others

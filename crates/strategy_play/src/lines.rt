@@ -7,7 +7,8 @@ ghost use Rattle.word_core.specs.Cube.{IsCube};
 ghost use Rattle.game_form.specs.Game.{own_width, other_width, class_at};
 ghost use Rattle.game_form.specs.Vector.{IsVector};
 ghost use Rattle.cpre_step.specs.Refinement.{answers};
-ghost use Rattle.strategy_play.specs.Lead.{lead, pick, leader, LeadBelow};
+ghost use Rattle.strategy_play.specs.Answer.{Answers};
+ghost use Rattle.strategy_play.specs.Lead.{lead, next_at, pick, leader, LeadBelow};
 ghost use Rattle.strategy_play.specs.Line.{line_by_class, line_by_action};
 ghost use Rattle.strategy_play.specs.State.{IsState};
 
@@ -31,7 +32,8 @@ pub fn lines_of(
     requires vector { IsVector g.now f.now }
     requires answered { answers g.now d.now f.now ≡ true }
     requires some { 0 < length d.now }
-    ensures { IfOk result (λ v. IsState g.now (length d.now) v.items) }
+    ensures state { IfOk result (λ v. IsState g.now (length d.now) v.items) }
+    ensures answers { IfOk result (λ v. Answers g.now (next_at g.now d.now f.now) (λ n. n) v.items) }
 {
     g.known();
     let nexts = next_entries(alloc, g, d, f)?;
@@ -46,7 +48,8 @@ fn second_lines(alloc: Global, g: &Game, nexts: &[Option<u64>]) -> Result<Vec<Li
     requires kind { g.now.kind ≡ Second }
     requires count { length nexts.now ≡ length g.now.actions }
     requires some { (c : ℕ) → c < length g.now.classes → IsSome (pick (lead nexts.now) (class_at g.now c).options) }
-    ensures { IfOk result (λ v. (count : ℕ) → LeadBelow count nexts.now → IsState g.now count v.items) }
+    ensures state { IfOk result (λ v. (count : ℕ) → LeadBelow count nexts.now → IsState g.now count v.items) }
+    ensures answers { IfOk result (λ v. Answers g.now (lead nexts.now) (λ n. n) v.items) }
 {
     g.known();
     let picks = class_picks(alloc, g, nexts)?;
@@ -85,7 +88,8 @@ fn first_lines(alloc: Global, g: &Game, nexts: &[Option<u64>]) -> Result<Vec<Lin
     requires kind { g.now.kind ≡ First }
     requires count { length nexts.now ≡ length g.now.actions }
     requires some { IsSome (leader (lead nexts.now) g.now.classes) }
-    ensures { IfOk result (λ v. (count : ℕ) → 0 < count → LeadBelow count nexts.now → IsState g.now count v.items) }
+    ensures state { IfOk result (λ v. (count : ℕ) → 0 < count → LeadBelow count nexts.now → IsState g.now count v.items) }
+    ensures answers { IfOk result (λ v. Answers g.now (lead nexts.now) (λ n. n) v.items) }
 {
     g.known();
     let class = g.class(leading_class(g, nexts));

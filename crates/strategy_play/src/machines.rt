@@ -8,6 +8,7 @@ ghost use Rattle.counter_vec.specs.Counters.{at_or_below};
 ghost use Rattle.cpre_step.specs.Refinement.{AreVectors, answers};
 ghost use Rattle.strategy_play.specs.Lead.{place_above};
 ghost use Rattle.strategy_play.specs.State.{IsState};
+ghost use Rattle.strategy_play.specs.Strategy.{IsStrategy};
 
 use crate::lines::lines_of;
 use crate::nexts::first_above;
@@ -29,6 +30,7 @@ pub fn extract(alloc: Global, g: &Game, d: &ListDownset<Counters>) -> Result<Mac
     ensures kind { IfOk result (λ m. m.kind ≡ g.now.kind) }
     ensures inputs { IfOk result (λ m. m.inputs ≡ g.now.inputs) }
     ensures outputs { IfOk result (λ m. m.outputs ≡ g.now.outputs) }
+    ensures strategy { IfOk result (λ m. IsStrategy g.now d.now m.states) }
 {
     g.known();
     let states = states(alloc, g, d)?;
@@ -57,6 +59,7 @@ fn states(alloc: Global, g: &Game, d: &ListDownset<Counters>) -> Result<Vec<Vec<
     requires closed { All (λ f. answers g.now d.now f ≡ true) d.now }
     requires begins { covered at_or_below (initial g.now) d.now ≡ true }
     ensures some { IfOk result (λ v. 0 < length v.items) }
+    ensures strategy { IfOk result (λ v. IsStrategy g.now d.now (map (λ lines. lines.items) v.items)) }
     ensures states { IfOk result (λ v. All (IsState g.now (length v.items)) (map (λ lines. lines.items) v.items)) }
 {
     let mut walk = begun(alloc, d.len(), first_entry(alloc, g, d)?)?;

@@ -2,7 +2,7 @@
 
 ghost use Rattle.std.specs.Prelude.{◌≡◌, ◌<◌, ℕ, true, length, IfOk, IsSome, Some};
 ghost use Rattle.game_form.specs.Game.{IsClass, class_at};
-ghost use Rattle.strategy_play.specs.Lead.{lead, pick, ArePicks, all_lead, leader, AreTargets};
+ghost use Rattle.strategy_play.specs.Lead.{lead, pick, ArePicks, all_lead, leader, AreTargets, AreNumbers};
 
 use game_form::{Class, Game};
 use indexmap::IndexSet;
@@ -43,7 +43,7 @@ pub fn class_picks(
 
 /// The number of each pick among the different ones, in the order in which they come.
 pub fn numbers_of(alloc: Global, picks: &[(u64, u64)]) -> Result<Vec<u64>, AllocError>
-    ensures count { IfOk result (λ v. length v.items ≡ length picks.now) }
+    ensures { IfOk result (λ v. AreNumbers picks.now v.items) }
 {
     let mut different = IndexSet::new(alloc);
     let mut out = Vec::with_capacity(alloc, picks.len())?;

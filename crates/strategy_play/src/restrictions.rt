@@ -1,7 +1,7 @@
 //! Trees of the other side's valuations.
 
-ghost use Rattle.std.specs.Prelude.{◌≡◌, ◌<◌, ◌≤◌, ◌+◌, length, IfOk, Some};
-ghost use Rattle.word_core.specs.Tree.{IsTree, LabelHas};
+ghost use Rattle.std.specs.Prelude.{◌≡◌, ◌<◌, ◌≤◌, ◌+◌, ◌*◌, ◌^◌, ℕ, length, slice_index, IfOk, Some};
+ghost use Rattle.word_core.specs.Tree.{LabelHas, label_of};
 ghost use Rattle.game_form.specs.Tree.{IsTreeOver};
 ghost use Rattle.strategy_play.specs.Restriction.{NodeFits, NodesFit, restricted_to};
 
@@ -21,7 +21,9 @@ pub fn restricted(
 ) -> Result<Tree, AllocError>
     requires tree { IsTreeOver (width + other) (length labels.now) nodes.now }
     requires narrow { width + other ≤ 64 }
+    requires own { own < 2 ^ width }
     ensures width { IfOk result (λ t. t.width ≡ other) }
+    ensures label { IfOk result (λ t. (bits : ℕ) → label_of t.nodes bits ≡ slice_index labels.now (label_of nodes.now (own + bits * 2 ^ width))) }
 {
     let mut out = Vec::with_capacity(alloc, nodes.len())?;
     for node in nodes {

@@ -1,6 +1,9 @@
-use Rattle.std.proofs.Common.{◌≡◌, ◌<◌, ◌≤◌, ◌-◌, length, map}
+use Rattle.std.proofs.Common.{◌≡◌, ◌<◌, ◌≤◌, ◌-◌, length, map, get_or, Some}
 use Rattle.std.specs.List.{All}
+use Rattle.game_form.specs.Vector.{initial}
+use Rattle.strategy_play.specs.Lead.{place_above}
 use Rattle.strategy_play.specs.State.{IsState}
+use Rattle.strategy_play.specs.Strategy.{AnswersEach}
 use Rattle.strategy_play.specs.Walk.{IsWalk}
 use Rattle.strategy_play.proofs.machines.states.Given as goal
 
@@ -8,8 +11,10 @@ abbrev pub invariant-walking : goal.invariant-walking
 invariant-walking l = record {
   walk : IsWalk (length l.d) l.walk.numbers.items l.walk.order.items;
   some : 0 < length l.walk.order.items;
+  begins : place_above l.d (initial l.g) ≡ Some (get_or l.walk.order.items 0 0);
   seen : length l.states.items ≤ length l.walk.order.items;
   states : All (IsState l.g (length l.walk.order.items)) (map (λ v. v.items) l.states.items);
+  answers : AnswersEach l.g l.d l.walk.order.items (map (λ v. v.items) l.states.items);
 }
 
 abbrev pub decreases-walking : goal.decreases-walking
