@@ -1,8 +1,8 @@
 -- The lines of an entry answer from it.
-use Rattle.std.proofs.Common.{◌≡◌, ℕ, zero, suc, ◌+◌, ◌*◌, ◌<◌, ◌≤◌, ◌^◌, Bool, true, false, cond, List, [], ◌∷◌, length, map, get_or, Option, Some, None, refl, sym, ◌∙◌, ap, subst, arith}
+use Rattle.std.proofs.Common.{◌≡◌, ℕ, ◌+◌, ◌*◌, ◌<◌, ◌^◌, Bool, true, false, cond, List, [], ◌∷◌, length, map, get_or, Option, Some, None, refl, sym, ◌∙◌, ap, subst, arith}
 use Rattle.std.specs.Prelude.{ℤ}
 use Rattle.std.specs.Option.{IsSomeAnd}
-use Rattle.std.specs.List.{All, list_all, position_from}
+use Rattle.std.specs.List.{All, position_from}
 use Rattle.std.specs.Option.{is_some}
 use Rattle.std.proofs.lemmas.List.Elements.{All-head, All-tail, All-from_get_or, All-same}
 use Rattle.word_core.specs.declared.names.Kind.{Kind}
@@ -15,9 +15,9 @@ use Rattle.word_core.specs.Machine.{choice}
 use Rattle.word_core.specs.Tree.{label_of}
 use Rattle.letter_tree.specs.Diagram.{TreeData}
 use Rattle.letter_tree.specs.Splitting.{pattern_of, splitting}
-use Rattle.game_form.specs.Game.{GameData, ClassData, IsGame, IsClass, own_width, other_width, class_at, no_class, option_at, of_first, of_second, first_width, class_of, action_of, letter_of}
-use Rattle.strategy_play.specs.Answer.{IsFirstAnswer, answer_of, IsAnswer, Answers}
-use Rattle.strategy_play.specs.Lead.{lead, next_at, AreNexts, LeadBelow, pick_or, pick, ArePicks, AreNumbers, all_lead, leader, AreTargets}
+use Rattle.game_form.specs.Game.{GameData, ClassData, IsGame, own_width, other_width, class_at, no_class, of_first, of_second, class_of, action_of, letter_of}
+use Rattle.strategy_play.specs.Answer.{answer_of, IsAnswer, Answers}
+use Rattle.strategy_play.specs.Lead.{lead, next_at, AreNexts, pick_or, pick, ArePicks, AreNumbers, all_lead, leader, AreTargets}
 use Rattle.strategy_play.specs.Line.{line_by_class, line_by_action}
 use Rattle.strategy_play.proofs.Leading.{all_same, leader_within}
 use Rattle.strategy_play.proofs.Made.{AreCubes, class_within}

@@ -1,5 +1,5 @@
 -- Where actions lead, and which options do.
-use Rattle.std.proofs.Common.{◌≡◌, ℕ, zero, suc, ◌+◌, ◌<◌, ◌≤◌, Bool, true, false, cond, ◌&&◌, ◌||◌, List, [], ◌∷◌, length, drop, get_or, Option, Some, None, refl, sym, ◌∙◌, ap, subst, arith, inl, inr}
+use Rattle.std.proofs.Common.{◌≡◌, ℕ, zero, suc, ◌+◌, ◌<◌, ◌≤◌, Bool, true, false, cond, ◌&&◌, ◌||◌, List, [], ◌∷◌, length, drop, get_or, Option, Some, None, refl, sym, ◌∙◌, ap, arith, inl, inr}
 use Rattle.std.specs.Prelude.{ℤ}
 use Rattle.std.specs.Option.{is_some, IsSome}
 use Rattle.std.specs.List.{All, list_any, list_all, position_from}
@@ -10,12 +10,10 @@ use Rattle.std.proofs.lemmas.Option.{same_Some}
 use Rattle.cpre_step.proofs.Left.{from_place}
 use Rattle.cpre_step.specs.Refinement.{action_works, some_works, all_work, answers}
 use Rattle.counter_vec.specs.Counters.{at_or_below}
-use Rattle.antichain_list.specs.Antichain.{covered}
-use Rattle.word_core.specs.declared.names.Kind.{Kind}
 use Rattle.word_core.specs.declared.names.Kind.TheVariants.{First, Second}
-use Rattle.game_form.specs.Game.{GameData, ClassData, IsGame, IsClass, class_at, no_class, option_at}
+use Rattle.game_form.specs.Game.{GameData, ClassData, IsGame, IsClass, class_at, no_class}
 use Rattle.game_form.specs.Vector.{successor}
-use Rattle.strategy_play.specs.Lead.{place_above, next_at, lead, AreNexts, LeadBelow, pick_or, pick, ArePicks, all_lead, leader}
+use Rattle.strategy_play.specs.Lead.{lead, AreNexts, LeadBelow, pick_or, pick, ArePicks, all_lead, leader}
 
 module _ {X : Type 0} (t : X → Bool) where
   -- the first that passes, in what is left of a list

@@ -1,11 +1,9 @@
 -- Lines made of cubes.
-use Rattle.std.proofs.Common.{◌≡◌, ℕ, ◌+◌, ◌<◌, ◌^◌, Bool, true, false, cond, List, [], ◌∷◌, length, map, get_or, Option, Some, None, refl, sym, ◌∙◌, ap, subst, arith}
-use Rattle.std.specs.Prelude.{bit_and}
+use Rattle.std.proofs.Common.{◌≡◌, ℕ, ◌<◌, ◌^◌, Bool, true, false, cond, List, [], ◌∷◌, length, map, get_or, Option, Some, refl, sym, ◌∙◌, ap, subst, arith}
 use Rattle.std.specs.Option.{is_some, IsSome}
 use Rattle.std.specs.List.{All}
 use Rattle.std.proofs.lemmas.List.{get_or-map, length-map}
 use Rattle.std.proofs.lemmas.List.Elements.{All-map, All-weaker}
-use Rattle.std.proofs.lemmas.Nat.{and_le_r}
 use Rattle.word_core.specs.declared.names.Kind.TheVariants.{First, Second}
 use Rattle.word_core.specs.declared.cubes.Cube.{Cube}
 use Rattle.word_core.specs.declared.machines.Line.{Line}
@@ -14,7 +12,7 @@ use Rattle.word_core.specs.Machine.{choice, IsLine, IsDecided, HasOneOwn}
 use Rattle.word_core.proofs.TreeLabels.{label_of-all}
 use Rattle.letter_tree.specs.Splitting.{pattern_of, splitting}
 use Rattle.letter_tree.specs.Diagram.{TreeData, IsRooted}
-use Rattle.word_core.specs.Tree.{label_of, label_at}
+use Rattle.word_core.specs.Tree.{label_of}
 use Rattle.game_form.specs.Game.{GameData, ClassData, IsGame, IsClass, own_width, other_width, class_at, option_at, of_first, of_second, class_of, action_of}
 use Rattle.strategy_play.specs.Lead.{lead, LeadBelow, ArePicks, AreTargets}
 use Rattle.strategy_play.specs.Line.{line_by_class, line_by_action}

@@ -1,5 +1,5 @@
 -- The states answer while more entries are met.
-use Rattle.std.proofs.Common.{◌≡◌, ℕ, suc, ◌+◌, ◌<◌, ◌≤◌, ◌^◌, Bool, true, false, cond, List, [], ◌∷◌, ◌++◌, length, get_or, Option, Some, None, refl, sym, ◌∙◌, ap, subst, arith, inl, inr}
+use Rattle.std.proofs.Common.{◌≡◌, ℕ, ◌<◌, Bool, true, false, cond, List, [], ◌∷◌, ◌++◌, length, get_or, Option, Some, sym, ◌∙◌, ap, subst, arith, inl, inr}
 use Rattle.std.specs.Prelude.{ℤ}
 use Rattle.std.specs.Option.{IsSomeAnd}
 use Rattle.std.specs.List.{All, AllZip}
@@ -16,7 +16,7 @@ use Rattle.strategy_play.specs.State.{IsState}
 use Rattle.strategy_play.specs.Strategy.{entry_of_state, AnswersEach}
 use Rattle.strategy_play.specs.Walk.{Extends, IsRenumbered}
 use Rattle.strategy_play.proofs.Answered.{some_and}
-use Rattle.strategy_play.proofs.Walked.{extends_at, extends_length}
+use Rattle.strategy_play.proofs.Walked.{extends_at}
 
 -- the line that decides is one of the lines
 decides_within : (P Q : Line → Type 0) (lines : List Line) (x : ℕ) → All P lines → IsSomeAnd (choice lines x) Q → IsSomeAnd (choice lines x) (λ l. P l × Q l)

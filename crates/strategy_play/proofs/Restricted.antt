@@ -8,7 +8,7 @@ use Rattle.std.proofs.lemmas.List.{get_or_append_left, get_or_push, length_push}
 use Rattle.std.proofs.lemmas.Option.{slice_get_within, get_or_from_slice_get, slice_get-get_or}
 use Rattle.word_core.specs.declared.branches.Branch.{Branch}
 use Rattle.word_core.specs.declared.branches.Branch.TheVariants.{Leaf, Split}
-use Rattle.word_core.specs.Tree.{IsTree, IsNodeAt, TestsBelow, AllTestBelow, LabelHas, AllLabels, side, label_at, label_of}
+use Rattle.word_core.specs.Tree.{IsTree, IsNodeAt, TestsBelow, AllTestBelow, LabelHas, side, label_at, label_of}
 use Rattle.word_core.proofs.TreeLabels.{label_leaf, label_split}
 use Rattle.game_form.specs.Tree.{IsTreeOver}
 use Rattle.strategy_play.specs.Restriction.{NodeFits, NodesFit, restricted_to}

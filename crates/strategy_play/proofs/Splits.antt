@@ -1,5 +1,5 @@
 -- In a splitting each cube has the label of all that it holds.
-use Rattle.std.proofs.Common.{◌≡◌, ℕ, zero, suc, ◌+◌, ◌-◌, ◌*◌, ◌/◌, ◌%◌, ◌^◌, ◌<◌, ◌≤◌, Bool, true, false, cond, eqb, ◌&&◌, bit_and, List, [], ◌∷◌, ◌++◌, length, Option, Some, None, refl, sym, ◌∙◌, ap, subst, arith}
+use Rattle.std.proofs.Common.{◌≡◌, ℕ, zero, suc, ◌+◌, ◌-◌, ◌*◌, ◌/◌, ◌%◌, ◌^◌, ◌<◌, Bool, true, false, cond, eqb, ◌&&◌, bit_and, List, [], length, Option, Some, None, refl, sym, ◌∙◌, ap, arith}
 use Rattle.std.specs.List.{All, slice_get}
 use Rattle.std.proofs.lemmas.Bool.Decides.{Decides-eqb}
 use Rattle.std.proofs.lemmas.List.Elements.{All-nil, All-cons, All-append, All-weaker}
@@ -9,7 +9,7 @@ use Rattle.word_core.specs.declared.branches.Branch.{Branch}
 use Rattle.word_core.specs.declared.branches.Branch.TheVariants.{Leaf, Split}
 use Rattle.word_core.specs.Cube.{IsCube, holds}
 use Rattle.word_core.specs.Tree.{label_at, label_of, side}
-use Rattle.letter_tree.specs.Diagram.{top, IsFork, IsNode, IsDiagram, IsRooted}
+use Rattle.letter_tree.specs.Diagram.{top, IsFork, IsDiagram, IsRooted}
 use Rattle.letter_tree.specs.Splitting.{all_cube, fixed, next_lines, lines_from, lines_at, splitting}
 use Rattle.letter_tree.proofs.Diagrams.{label_at-leaf, label_at-split}
 use Rattle.letter_tree.proofs.Joints.{fork_at}

@@ -6,10 +6,9 @@ use Rattle.std.proofs.lemmas.Bool.{cases_eq, cases_lt}
 use Rattle.std.proofs.lemmas.List.{get_or-set_same, get_or-set_other, length-set, length_push, get_or_push, get_or_append_left, get_or-replicate, get_or_past, length-replicate}
 use Rattle.std.proofs.lemmas.List.Elements.{All-nil, All-cons, All-head, All-tail, All-push, AllZip-get_or, All-weaker, length_all_zip}
 use Rattle.std.proofs.lemmas.Option.{same_Some, none-some}
-use Rattle.word_core.specs.declared.names.Kind.TheVariants.{First}
 use Rattle.word_core.specs.declared.machines.Line.{Line}
 use Rattle.word_core.specs.Cube.{IsCube, holds}
-use Rattle.word_core.specs.Machine.{choice, IsLine, IsDecided, HasOneOwn}
+use Rattle.word_core.specs.Machine.{choice, IsLine}
 use Rattle.game_form.specs.Game.{GameData, own_width, other_width}
 use Rattle.strategy_play.specs.Lead.{lead}
 use Rattle.strategy_play.specs.State.{IsState}

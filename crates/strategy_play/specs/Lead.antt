@@ -1,5 +1,5 @@
 -- Where actions lead: the first entry at or above the successor; and which options lead somewhere.
-use Rattle.std.specs.Prelude.{◌≡◌, ℕ, ◌<◌, ℤ, Bool, List, [], ◌∷◌, length, Option, Some, None, slice_index_or, if◌then◌else◌}
+use Rattle.std.specs.Prelude.{◌≡◌, ℕ, ◌<◌, ℤ, Bool, List, [], ◌∷◌, length, Option, Some, None, slice_index_or}
 use Rattle.std.specs.List.{position_from, list_all}
 use Rattle.std.specs.Option.{is_some}
 use Rattle.counter_vec.specs.Counters.{at_or_below}

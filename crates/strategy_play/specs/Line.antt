@@ -1,5 +1,5 @@
 -- Lines made of cubes.
-use Rattle.std.specs.Prelude.{◌≡◌, ℕ, ◌<◌, List, [], ◌∷◌, length, slice_index, slice_index_or}
+use Rattle.std.specs.Prelude.{ℕ, List, slice_index, slice_index_or}
 use Rattle.word_core.specs.declared.cubes.Cube.{Cube}
 use Rattle.word_core.specs.declared.machines.Line.{Line}
 use Rattle.game_form.specs.Game.{GameData, action_of, class_of}

@@ -1,5 +1,5 @@
 -- States of the player's machine.
-use Rattle.std.specs.Prelude.{◌≡◌, ℕ, ◌<◌, List, [], ◌∷◌, length}
+use Rattle.std.specs.Prelude.{◌≡◌, ℕ, List}
 use Rattle.std.specs.List.{All}
 use Rattle.word_core.specs.declared.names.Kind.TheVariants.{First}
 use Rattle.word_core.specs.declared.machines.Line.{Line}

@@ -1,6 +1,6 @@
 use Rattle.std.proofs.Common.{Vec, Global, ◌≡◌, ◌∙◌, sym, ap, subst, true}
 use Rattle.std.proofs.lemmas.Result.{IfOk-weaker}
-use Rattle.game_form.specs.Game.{ClassData, class_at}
+use Rattle.game_form.specs.Game.{ClassData}
 use Rattle.word_core.specs.declared.machines.Line.{Line}
 use Rattle.strategy_play.specs.Lead.{lead, all_lead}
 use Rattle.strategy_play.proofs.Leading.{leader_within, leader_leads}

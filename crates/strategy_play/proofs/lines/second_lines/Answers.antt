@@ -1,7 +1,7 @@
-use Rattle.std.proofs.Common.{Vec, Global, ◌≡◌, ◌∙◌, sym, ap, subst, refl}
+use Rattle.std.proofs.Common.{Vec, Global, ◌∙◌, subst, refl}
 use Rattle.std.proofs.lemmas.Result.{IfOk-weaker}
 use Rattle.word_core.specs.declared.machines.Line.{Line}
-use Rattle.strategy_play.specs.Lead.{lead, AreNumbers}
+use Rattle.strategy_play.specs.Lead.{AreNumbers}
 use Rattle.letter_tree.specs.Diagram.{TreeData, IsRooted}
 use Rattle.strategy_play.proofs.Answered.{label_is, second_answers}
 use Rattle.strategy_play.proofs.Made.{AreCubes, second_made, class_within}

@@ -1,4 +1,4 @@
-use Rattle.std.proofs.Common.{◌≡◌, ◌<◌, ◌∙◌, sym, ap, arith, true, false, length, Some, None}
+use Rattle.std.proofs.Common.{◌≡◌, ◌∙◌, sym, ap, arith, true, false, Some, None}
 use Rattle.std.specs.Option.{is_some}
 use Rattle.counter_vec.specs.Counters.{at_or_below}
 use Rattle.game_form.specs.Vector.{initial}

@@ -1,4 +1,4 @@
-use Rattle.std.proofs.Common.{◌≡◌, ◌<◌, ◌∙◌, sym, subst, length, set, arith, Some, None}
+use Rattle.std.proofs.Common.{◌≡◌, ◌∙◌, sym, subst, length, set, arith, Some, None}
 use Rattle.std.proofs.lemmas.List.{get_or_read}
 use Rattle.strategy_play.specs.Lead.{lead}
 use Rattle.strategy_play.specs.Walk.{IsWalk}

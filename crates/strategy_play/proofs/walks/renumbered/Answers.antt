@@ -1,9 +1,9 @@
-use Rattle.std.proofs.Common.{◌≡◌, ◌<◌, ◌∙◌, sym, ap, subst, length, take, get_or, refl, arith, ◌+◌, List}
+use Rattle.std.proofs.Common.{◌∙◌, sym, subst, take, get_or, refl, ◌+◌}
 use Rattle.std.specs.List.{AllZip}
 use Rattle.std.proofs.lemmas.List.{get_or_default}
 use Rattle.std.proofs.lemmas.List.Elements.{all_zip_more}
 use Rattle.word_core.specs.declared.machines.Line.{Line}
-use Rattle.strategy_play.specs.Walk.{IsWalk, Extends, IsRenumbered}
+use Rattle.strategy_play.specs.Walk.{IsWalk, IsRenumbered}
 use Rattle.strategy_play.proofs.Walked.{extends_then, zip_extends}
 use Rattle.strategy_play.proofs.walks.renumbered.Goals as goal
 
