@@ -21,7 +21,7 @@ no_fault m is (NotFirst s) fault = fault.3.1 (is.first fault.2 s [] fault.3.0)
 abbrev pub lines_in : Vec Line Global → List Line
 lines_in v = v.items
 
-abbrev made_of : List (List Line) → Player → Kind → ℕ → ℕ → MachineData
+abbrev pub made_of : List (List Line) → Player → Kind → ℕ → ℕ → MachineData
 made_of states player kind inputs outputs = record { player = player; kind = kind; inputs = inputs; outputs = outputs; states = states }
 
 pub is_machine : (g : GameData) (player : Player) (kind : Kind) (inputs outputs : ℕ) (states : List (Vec Line Global)) → IsGame g

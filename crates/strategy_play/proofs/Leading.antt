@@ -144,7 +144,7 @@ module _ (g : GameData) (entries : List (List ℤ)) (f : List ℤ) (nexts : List
 pub leader_within : (next : ℕ → Option ℕ) (classes : List ClassData) (c : ℕ) → leader next classes ≡ Some c → c < length classes
 leader_within next classes c e = let r = position_within (λ c. all_lead next c.options) 0 classes c e in omega (arith, r.1)
 
-passes : {X : Type 0} (t : X → Bool) (n : ℕ) (xs : List X) (i j : ℕ) (d : X) → position_from t n xs ≡ Some i → i ≡ n + j → t (get_or xs j d) ≡ true
+pub passes : {X : Type 0} (t : X → Bool) (n : ℕ) (xs : List X) (i j : ℕ) (d : X) → position_from t n xs ≡ Some i → i ≡ n + j → t (get_or xs j d) ≡ true
 passes t n [] i j d e at = absurd (cc)
 passes t n (x ∷ xs) i j d e at = go (t x) refl (λ k e' at'. passes t (n + 1) xs i k d e' at') e j at
   where

@@ -1,5 +1,6 @@
 pub mod Answered
 pub mod Faults
+pub mod Kept
 pub mod Leading
 pub mod Made
 pub mod Numbered

@@ -19,7 +19,7 @@ use Rattle.strategy_play.proofs.Answered.{some_and}
 use Rattle.strategy_play.proofs.Walked.{extends_at}
 
 -- the line that decides is one of the lines
-decides_within : (P Q : Line → Type 0) (lines : List Line) (x : ℕ) → All P lines → IsSomeAnd (choice lines x) Q → IsSomeAnd (choice lines x) (λ l. P l × Q l)
+pub decides_within : (P Q : Line → Type 0) (lines : List Line) (x : ℕ) → All P lines → IsSomeAnd (choice lines x) Q → IsSomeAnd (choice lines x) (λ l. P l × Q l)
 decides_within P Q [] x all h = h
 decides_within P Q (l ∷ ls) x all h = go (holds l.when x) (decides_within P Q ls x (All-tail P l ls all)) h
   where
