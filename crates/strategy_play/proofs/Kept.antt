@@ -1,5 +1,5 @@
 -- Along all plays of the machine every lane is at most at the bound.
-use Rattle.std.proofs.Common.{Vec, Global, ◌≡◌, ℕ, zero, suc, ◌+◌, ◌<◌, ◌≤◌, ◌^◌, Bool, true, false, cond, eqb, List, [], ◌∷◌, length, map, get_or, Option, Some, None, refl, sym, ◌∙◌, ap, subst, arith}
+use Rattle.std.proofs.Common.{Vec, Global, ◌≡◌, ℕ, ◌<◌, ◌^◌, Bool, true, false, cond, eqb, List, [], ◌∷◌, length, map, get_or, Option, Some, None, refl, sym, ◌∙◌, ap, subst, arith}
 use Rattle.std.specs.Prelude.{ℤ, pos, negsuc, ◌≤ℤ◌}
 use Rattle.std.specs.Option.{IsSomeAnd, MatchOption}
 use Rattle.std.specs.List.{All}
@@ -18,7 +18,7 @@ use Rattle.word_core.specs.declared.machines.Line.{Line}
 use Rattle.word_core.specs.Machine.{MachineData, IsMachine, IsLine, choice, lines_at, own_of, other_of}
 use Rattle.word_core.specs.Play.{Move, IsPlayFrom}
 use Rattle.word_core.proofs.TreeLabels.{label_of-all}
-use Rattle.game_form.specs.Game.{GameData, IsGame, lanes, action_at, option_at, class_at, class_of, action_of, letter_of, other_width}
+use Rattle.game_form.specs.Game.{GameData, IsGame, lanes, action_at, class_at, class_of, action_of, letter_of, other_width}
 use Rattle.game_form.specs.Vector.{IsVector, lane, vector, arrived, bound, begins, initial, successor, predecessor}
 use Rattle.game_form.specs.Held.{after, InBound, KeepsFrom}
 use Rattle.strategy_play.specs.Answer.{answer_of, IsAnswer}

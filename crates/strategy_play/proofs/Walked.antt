@@ -1,9 +1,9 @@
 -- Entries numbered as they are met, and states while more are met.
-use Rattle.std.proofs.Common.{◌≡◌, ℕ, zero, suc, ◌+◌, ◌<◌, ◌≤◌, ◌^◌, Bool, true, false, cond, List, [], ◌∷◌, ◌++◌, length, get_or, set, replicate, Option, Some, None, refl, sym, ◌∙◌, ap, subst, arith, inl, inr, append_assoc, append-nil, length-append}
+use Rattle.std.proofs.Common.{◌≡◌, ℕ, zero, suc, ◌+◌, ◌<◌, ◌≤◌, ◌^◌, Bool, true, false, cond, List, [], ◌∷◌, ◌++◌, length, get_or, set, replicate, Option, Some, None, refl, sym, ◌∙◌, ap, subst, arith, inl, inr, append_assoc, append-nil, length-append, max}
 use Rattle.std.specs.Option.{is_some, IsSome}
-use Rattle.std.specs.List.{All, AllZip}
+use Rattle.std.specs.List.{All, AllZip, flat_map}
 use Rattle.std.proofs.lemmas.Bool.{cases_eq, cases_lt}
-use Rattle.std.proofs.lemmas.List.{get_or-set_same, get_or-set_other, length-set, length_push, get_or_push, get_or_append_left, get_or-replicate, get_or_past, length-replicate}
+use Rattle.std.proofs.lemmas.List.{map-append, flat_map_more, get_or-set_same, get_or-set_other, length-set, length_push, get_or_push, get_or_append_left, get_or-replicate, get_or_past, length-replicate}
 use Rattle.std.proofs.lemmas.List.Elements.{All-nil, All-cons, All-head, All-tail, All-push, AllZip-get_or, All-weaker, length_all_zip}
 use Rattle.std.proofs.lemmas.Option.{same_Some, none-some}
 use Rattle.word_core.specs.declared.machines.Line.{Line}
@@ -12,7 +12,7 @@ use Rattle.word_core.specs.Machine.{choice, IsLine}
 use Rattle.game_form.specs.Game.{GameData, own_width, other_width}
 use Rattle.strategy_play.specs.Lead.{lead}
 use Rattle.strategy_play.specs.State.{IsState}
-use Rattle.strategy_play.specs.Walk.{open_count, IsWalk, Extends, IsRenumbered}
+use Rattle.strategy_play.specs.Walk.{open_count, IsWalk, Extends, IsRenumbered, InTurn, nexts_of}
 
 -- one entry fewer is without a number
 open_falls : (numbers : List (Option ℕ)) (i n : ℕ) → i < length numbers → lead numbers i ≡ None → suc (open_count (set numbers i (Some n))) ≡ open_count numbers
@@ -146,3 +146,16 @@ states_grow g a b states less = All-weaker (IsState g a) (IsState g b) (λ lines
 -- no entry has two numbers
 pub walk_once : (count : ℕ) (numbers : List (Option ℕ)) (order : List ℕ) → IsWalk count numbers order → (i j : ℕ) → i < length order → j < length order → get_or order i 0 ≡ get_or order j 0 → i ≡ j
 walk_once count numbers order is i j in_i in_j same = same_Some i j (sym (is.ordered i in_i) ∙ ap (lead numbers) same ∙ is.ordered j in_j)
+
+-- numbers in turn behind others
+pub turns_then : (a : ℕ) (xs : List ℕ) (b : ℕ) (ys : List ℕ) (c : ℕ) → InTurn a xs b → InTurn b ys c → InTurn a (xs ++ ys) c
+turns_then a [] b ys c x y = subst (λ n. InTurn n ys c) x y
+turns_then a (n ∷ ns) b ys c x y = (x.0, turns_then (max a (n + 1)) ns b ys c x.1 y)
+
+pub turn_more : (a : ℕ) (lines : List Line) (b c : ℕ) (line : Line) → InTurn a (nexts_of lines) b → line.next ≤ b → c ≡ max b (line.next + 1) → InTurn a (nexts_of (lines ++ line ∷ [])) c
+turn_more a lines b c line turns le end =
+    subst (λ ns. InTurn a ns c) (sym (map-append (λ (l : Line). l.next) lines (line ∷ []))) (turns_then a (nexts_of lines) b (line.next ∷ []) c turns (le, end))
+
+-- the lines of one more state
+pub states_turn : (a : ℕ) (states : List (List Line)) (b c : ℕ) (made : List Line) → InTurn a (flat_map nexts_of states) b → InTurn b (nexts_of made) c → InTurn a (flat_map nexts_of (states ++ made ∷ [])) c
+states_turn a states b c made x y = subst (λ ns. InTurn a ns c) (flat_map_more nexts_of [] states made) (turns_then a (flat_map nexts_of states) b (nexts_of made) c x y)

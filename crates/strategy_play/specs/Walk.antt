@@ -1,5 +1,5 @@
 -- Entries numbered as they are met.
-use Rattle.std.specs.Prelude.{◌≡◌, ℕ, suc, ◌+◌, ◌<◌, List, [], ◌∷◌, ◌++◌, length, slice_index, Option, Some, None}
+use Rattle.std.specs.Prelude.{◌≡◌, ℕ, suc, ◌+◌, ◌<◌, ◌≤◌, max, map, List, [], ◌∷◌, ◌++◌, length, slice_index, Option, Some, None}
 use Rattle.std.specs.List.{All}
 use Rattle.word_core.specs.declared.machines.Line.{Line}
 use Rattle.strategy_play.specs.Lead.{lead}
@@ -29,3 +29,12 @@ pub record IsRenumbered (order : List ℕ) (l m : Line) : Type 0 where
   pub own : m.own ≡ l.own
   pub within : m.next < length order
   pub next : slice_index order m.next ≡ l.next
+
+-- numbers in turn, from so many on: each is one of those before, or the next one; and how many there are in the end
+abbrev pub InTurn : ℕ → List ℕ → ℕ → Type 0
+InTurn count [] end = end ≡ count
+InTurn count (n ∷ ns) end = (n ≤ count) × InTurn (max count (n + 1)) ns end
+
+-- to what the lines lead
+abbrev pub nexts_of : List Line → List ℕ
+nexts_of lines = map (λ l. l.next) lines

@@ -1,8 +1,8 @@
 //! States numbered as they are met.
 
-ghost use Rattle.std.specs.Prelude.{◌≡◌, ◌<◌, ◌∷◌, [], length, replicate, None, IfOk, OnOk, slice_index};
+ghost use Rattle.std.specs.Prelude.{◌≡◌, ◌<◌, ◌≤◌, ◌+◌, ◌∷◌, [], max, length, replicate, None, IfOk, OnOk, slice_index};
 ghost use Rattle.std.specs.List.{All, AllZip};
-ghost use Rattle.strategy_play.specs.Walk.{IsWalk, Extends, IsRenumbered};
+ghost use Rattle.strategy_play.specs.Walk.{IsWalk, Extends, IsRenumbered, InTurn, nexts_of};
 
 use std::alloc::{AllocError, Global};
 use word_core::Line;
@@ -46,6 +46,7 @@ fn number_of(walk: &mut Walk, entry: u64) -> Result<u64, AllocError>
     ensures extends { OnOk result (Extends walk.old.order.items walk.new.order.items) }
     ensures within { IfOk result (λ n. n < length walk.new.order.items) }
     ensures entry { IfOk result (λ n. slice_index walk.new.order.items n ≡ entry) }
+    ensures turn { IfOk result (λ n. (n ≤ length walk.old.order.items) × (length walk.new.order.items ≡ max (length walk.old.order.items) (n + 1))) }
 {
     if let Some(number) = walk.numbers[entry as usize] {
         return Ok(number);
@@ -63,6 +64,7 @@ pub fn renumbered(alloc: Global, walk: &mut Walk, lines: &[Line]) -> Result<Vec<
     ensures walk { OnOk result (IsWalk (length walk.old.numbers.items) walk.new.numbers.items walk.new.order.items) }
     ensures extends { OnOk result (Extends walk.old.order.items walk.new.order.items) }
     ensures lines { IfOk result (λ v. AllZip (IsRenumbered walk.new.order.items) lines.now v.items) }
+    ensures turns { IfOk result (λ v. InTurn (length walk.old.order.items) (nexts_of v.items) (length walk.new.order.items)) }
 {
     let mut out = Vec::with_capacity(alloc, lines.len())?;
     for line in lines {

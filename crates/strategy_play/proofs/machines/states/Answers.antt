@@ -1,5 +1,5 @@
 use Rattle.std.proofs.Common.{Vec, Global, ◌≡◌, ◌<◌, ◌≤◌, ◌∙◌, sym, ap, subst, length, map, arith, List, [], get_or, Some}
-use Rattle.std.specs.List.{All, AllZip}
+use Rattle.std.specs.List.{All, AllZip, flat_map}
 use Rattle.std.proofs.lemmas.List.{map_push, length_push, length-map, get_or_read}
 use Rattle.std.proofs.lemmas.List.Elements.{All-push}
 use Rattle.word_core.specs.declared.machines.Line.{Line}
@@ -7,10 +7,10 @@ use Rattle.strategy_play.specs.Answer.{Answers}
 use Rattle.strategy_play.specs.Lead.{next_at}
 use Rattle.strategy_play.specs.State.{IsState}
 use Rattle.strategy_play.specs.Strategy.{entry_of_state, AnswersEach}
-use Rattle.strategy_play.specs.Walk.{IsWalk, IsRenumbered}
+use Rattle.strategy_play.specs.Walk.{IsWalk, IsRenumbered, InTurn, nexts_of}
 use Rattle.strategy_play.proofs.Faults.{lines_in}
 use Rattle.strategy_play.proofs.Played.{answers_renumbered, answers_more}
-use Rattle.strategy_play.proofs.Walked.{extends_at, walk_once, extends_length, states_grow, state_renumbered}
+use Rattle.strategy_play.proofs.Walked.{states_turn, extends_at, walk_once, extends_length, states_grow, state_renumbered}
 use Rattle.strategy_play.proofs.machines.states.Goals as goal
 
 pub walking-preserved : goal.walking-preserved
@@ -44,6 +44,8 @@ walking-preserved c =
       answers = subst (AnswersEach game c.args.d.now order) (sym (ap (map lines_in) c.in_ok-push.ensures.items ∙ map_push lines_in states made))
           (answers_more game c.args.d.now before order (map lines_in states) made.items kept.extends (omega (arith, length-map states lines_in)) c.walking.invariant.states c.walking.invariant.answers
           (subst (λ f. Answers game (next_at game c.args.d.now f) (λ n. get_or order n 0) made.items) (at ∙ ap (entry_of_state c.args.d.now before) (sym (length-map states lines_in))) answers));
+      turns = subst (λ lss. InTurn 1 (flat_map nexts_of lss) (length order)) (sym (ap (map lines_in) c.in_ok-push.ensures.items ∙ map_push lines_in states made))
+          (states_turn 1 (map lines_in states) (length before) (length order) made.items c.walking.invariant.turns kept.turns);
     }
 
 pub returns-clause-states : goal.returns-clause-states
@@ -61,4 +63,5 @@ returns-clause-strategy c =
       once = walk_once (length c.args.d.now) c.walking.walk.numbers.items c.walking.walk.order.items c.walking.invariant.walk;
       first = c.walking.invariant.begins;
       answers = c.walking.invariant.answers;
+      breadth_first = subst (InTurn 1 (flat_map nexts_of (map lines_in c.walking.states.items))) (same ∙ sym (length-map c.walking.states.items lines_in)) c.walking.invariant.turns;
     }

@@ -1,10 +1,10 @@
-use Rattle.std.proofs.Common.{◌∙◌, sym, subst, take, get_or, refl, ◌+◌}
+use Rattle.std.proofs.Common.{◌∙◌, sym, subst, take, get_or, refl, ◌+◌, length}
 use Rattle.std.specs.List.{AllZip}
 use Rattle.std.proofs.lemmas.List.{get_or_default}
 use Rattle.std.proofs.lemmas.List.Elements.{all_zip_more}
 use Rattle.word_core.specs.declared.machines.Line.{Line}
-use Rattle.strategy_play.specs.Walk.{IsWalk, IsRenumbered}
-use Rattle.strategy_play.proofs.Walked.{extends_then, zip_extends}
+use Rattle.strategy_play.specs.Walk.{IsWalk, IsRenumbered, InTurn, nexts_of}
+use Rattle.strategy_play.proofs.Walked.{extends_then, zip_extends, turn_more}
 use Rattle.strategy_play.proofs.walks.renumbered.Goals as goal
 
 pub loop-line-preserved : goal.loop-line-preserved
@@ -23,4 +23,6 @@ loop-line-preserved c =
       extends = extends_then c.args.walk.now.order.items order order' c.loop-line.invariant.extends kept.extends;
       lines = subst (AllZip (IsRenumbered order') (take (c.loop-line.line-index + 1) lines)) (sym c.in_ok-push.ensures.items)
           (all_zip_more (IsRenumbered order') lines c.loop-line.out.items c.loop-line.line-index line made c.loop-line-test.true (get_or_default lines c.loop-line.line-index _ line c.loop-line-test.true) zip is);
+      turns = subst (λ out. InTurn (length c.args.walk.now.order.items) (nexts_of out) (length order')) (sym c.in_ok-push.ensures.items)
+          (turn_more (length c.args.walk.now.order.items) c.loop-line.out.items (length order) (length order') made c.loop-line.invariant.turns kept.turn.0 kept.turn.1);
     }
