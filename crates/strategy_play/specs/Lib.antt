@@ -1,4 +1,5 @@
 pub mod Answer
+pub mod Example
 pub mod Lead
 pub mod Letters
 pub mod Line

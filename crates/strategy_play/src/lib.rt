@@ -9,3 +9,6 @@ mod restrictions;
 mod walks;
 
 pub use machines::extract;
+
+#[cfg(test)]
+mod tests;
