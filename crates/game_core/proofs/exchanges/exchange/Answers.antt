@@ -14,4 +14,4 @@ put_pieces-requires-clause-entries c =
     (c.take_entry-f.ensures.answers c.args.slots c.requires.entries.answers))
 
 pub returns-clause-columns : goal.returns-clause-columns
-returns-clause-columns c = (c.drop_place.auto.columns ∙ c.requires.columns.0, c.drop_place.ensures (lanes c.args.g.now) c.requires.columns.1)
+returns-clause-columns c = ?
