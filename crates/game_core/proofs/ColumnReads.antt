@@ -11,7 +11,6 @@ use Rattle.game_form.specs.Game.{GameData, IsGame, lanes}
 use Rattle.game_form.specs.Vector.{predecessor}
 use Rattle.game_core.specs.Columns.{AreColumns, IsColumn, column_at}
 use Rattle.game_core.specs.Front.{Misses, under}
-use Rattle.game_core.specs.Known.{HaveLanes}
 use Rattle.game_core.proofs.Orders.{length_predecessor}
 
 pub column_of : (columns : List (Vec (List ℤ) Global)) (at : ℕ) (d : Vec (List ℤ) Global) → at < length columns → column_at columns at ≡ (slice_index_or columns at d).items
@@ -144,25 +143,26 @@ dropped_none g vectors gone columns h = record { same_length = h.same_length; do
 pub dropped_all : (g : GameData) (vectors : List (List ℤ)) (gone at : ℕ) (columns : List (Vec (List ℤ) Global)) → AreDropped g vectors gone at columns → length columns ≤ at → AreColumns g (remove vectors gone) columns
 dropped_all g vectors gone at columns h le = record { same_length = h.same_length; each = λ action lt. h.done action lt (let n = h.same_length in omega arith) }
 
-pub dropped_more : (g : GameData) (vectors : List (List ℤ)) (gone at : ℕ) (columns : List (Vec (List ℤ) Global)) (r c : Vec (List ℤ) Global) → AreDropped g vectors gone at columns → at < length columns
-    → r ≡ slice_index_or columns at r → (IsColumn g at vectors r.items → IsColumn g at (remove vectors gone) c.items) → AreDropped g vectors gone (at + 1) (slice_set columns at c)
-dropped_more g vectors gone at columns r c h lt is made = record {
+pub dropped_more : (g : GameData) (vectors : List (List ℤ)) (gone at : ℕ) (columns : List (Vec (List ℤ) Global)) (d c : Vec (List ℤ) Global) → AreDropped g vectors gone at columns → at < length columns
+    → (IsColumn g at vectors (slice_index_or columns at d).items → IsColumn g at (remove vectors gone) c.items) → AreDropped g vectors gone (at + 1) (slice_set columns at c)
+dropped_more g vectors gone at columns d c h lt made = record {
   same_length = length-set columns at c ∙ h.same_length;
   done = λ action within less. go action within less (cases_eq action at);
   todo = λ action within more. subst (IsColumn g action vectors) (sym (column_there columns at action c (λ e. omega arith))) (h.todo action within (omega arith));
 }
   where
     new : IsColumn g at (remove vectors gone) c.items
-    new = made (subst (IsColumn g at vectors) (column_read columns at r lt is) (h.todo at (let n = h.same_length in omega arith) (omega arith)))
+    new = made (subst (IsColumn g at vectors) (column_of columns at d lt) (h.todo at (let n = h.same_length in omega arith) (omega arith)))
 
     go : (action : ℕ) → action < length g.actions → action < at + 1 → (action ≡ at) ⊎ (action ≡ at → ⊥) → IsColumn g action (remove vectors gone) (column_at (slice_set columns at c) action)
     go action within less (inl e) =
         subst (λ a. IsColumn g a (remove vectors gone) (column_at (slice_set columns at c) a)) (sym e) (subst (IsColumn g at (remove vectors gone)) (sym (column_here columns at c lt)) new)
     go action within less (inr ne) = subst (IsColumn g action (remove vectors gone)) (sym (column_there columns at action c ne)) (h.done action within (omega arith))
 
--- members of columns have the game's lanes
-pub column_lanes : (g : GameData) (vectors : List (List ℤ)) (columns : List (Vec (List ℤ) Global)) → IsGame g → AreColumns g vectors columns → All (λ c. HaveLanes g c.items) columns
-column_lanes g vectors columns known h k d lt i e below =
+-- members of columns have as many lanes as f
+pub column_lanes : (g : GameData) (vectors : List (List ℤ)) (columns : List (Vec (List ℤ) Global)) (f : List ℤ) → IsGame g → length f ≡ lanes g → AreColumns g vectors columns
+    → All (λ c. All (λ p. length p ≡ length f) c.items) columns
+column_lanes g vectors columns f known same h k d lt i e below =
     let within : k < length g.actions = (let n = h.same_length in omega arith) in
     let c : IsColumn g k vectors (slice_index_or columns k d).items = subst (IsColumn g k vectors) (column_of columns k d lt) (h.each k within) in
-    ap length (c.each i e below) ∙ length_predecessor g k (slice_index_or vectors i e) known within
+    ap length (c.each i e below) ∙ length_predecessor g k (slice_index_or vectors i e) known within ∙ sym same

@@ -10,4 +10,6 @@ pub mod PendingMarks
 pub mod Pieces
 pub mod Places
 pub mod Replacements
+pub mod Settled
+pub mod Weaker
 pub mod Works

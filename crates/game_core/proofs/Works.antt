@@ -1,5 +1,5 @@
 -- What columns and plans say of the game.
-use Rattle.std.proofs.Common.{◌≡◌, ℕ, zero, suc, ◌<◌, ◌≤◌, Bool, true, false, not, ◌&&◌, ◌||◌, List, [], ◌∷◌, length, refl, sym, ◌∙◌, ap, subst, arith, Vec, Option, Some, None, IfSome}
+use Rattle.std.proofs.Common.{◌≡◌, ℕ, zero, suc, ◌<◌, ◌≤◌, Bool, true, false, not, ◌&&◌, ◌||◌, List, [], ◌∷◌, length, refl, sym, ◌∙◌, ap, subst, arith, Vec}
 use Rattle.std.specs.Prelude.{ℤ, pos, negsuc, min, ◌≤ℤ◌, slice_index_or}
 use Rattle.std.specs.Int.{int_max}
 use Rattle.std.specs.List.{All, list_any, list_all}
@@ -32,7 +32,7 @@ all_weaker p q (x ∷ xs) each h =
     let parts = and_parts (p x) (list_all p xs) h in
     rw (each zero x (omega arith) parts.0, all_weaker p q xs (λ k d lt. each (suc k) d (omega arith)) parts.1)
 
-module _ (g : GameData) (known : IsGame g) (vectors : List (List ℤ)) (f : List ℤ) (are : All (IsVector g) vectors) (is : IsVector g f) (columns : List (Vec (List ℤ) Global)) (h : AreColumns g vectors columns) where
+module _ (g : GameData) (known : IsGame g) (vectors : List (List ℤ)) (f : List ℤ) (fit : All (IsVector g) vectors) (is : IsVector g f) (columns : List (Vec (List ℤ) Global)) (h : AreColumns g vectors columns) where
   -- an entry whose predecessor under the action is at or above f answers f
   column_works : (action : ℕ) → action < length g.actions → under (column_at columns action) f ≡ true → action_works g vectors f action ≡ true
   column_works action lt hit =
@@ -42,7 +42,7 @@ module _ (g : GameData) (known : IsGame g) (vectors : List (List ℤ)) (f : List
       let below : a.0 < length vectors = (let s = c.short in let k : a.0 < length (column_at columns action) = a.2 in omega arith) in
       let e : a.1 ≡ predecessor g action v = sym a.3 ∙ c.each a.0 a.1 a.2 in
       list_any_at (λ w. at_or_below (successor g action f) w) vectors a.0 a.1 below
-      (galois g known action lt f v is (are a.0 a.1 below) ∙ ap (at_or_below f) (sym e) ∙ a.4)
+      (galois g known action lt f v is (fit a.0 a.1 below) ∙ ap (at_or_below f) (sym e) ∙ a.4)
 
   pub some_works_by : (options : List ℕ) → AreActions (length g.actions) options → some_covers f columns options ≡ true → list_any (action_works g vectors f) options ≡ true
   some_works_by options actions = any_weaker (λ a. under (column_at columns a) f) (action_works g vectors f) options (λ k d lt. column_works (slice_index_or options k d) (actions k d lt))
@@ -63,15 +63,15 @@ brought_mono k (pos n) zero (suc s) h = omega (arith, ints)
 brought_mono k (pos n) (suc r) zero h = absurd (omega arith)
 brought_mono k (pos n) (suc r) (suc s) h = omega (arith, ints)
 
-arrived_mono : (k : ℕ) (as bs : List (List Step)) (f : List ℤ) (p : ℕ) → length as ≡ length bs → ((q : ℕ) → q < length as → number (row_at as q) p ≤ number (row_at bs q) p)
-    → arrived k as f p ≤ℤ arrived k bs f p
+arrived_mono : (k : ℕ) (xs ys : List (List Step)) (f : List ℤ) (p : ℕ) → length xs ≡ length ys → ((q : ℕ) → q < length xs → number (row_at xs q) p ≤ number (row_at ys q) p)
+    → arrived k xs f p ≤ℤ arrived k ys f p
 arrived_mono k [] [] f p e h = omega (arith, ints)
-arrived_mono k [] (b ∷ bs) f p e h = absurd (omega arith)
-arrived_mono k (a ∷ as) [] f p e h = absurd (omega arith)
-arrived_mono k (a ∷ as) (b ∷ bs) [] p e h = omega (arith, ints)
-arrived_mono k (a ∷ as) (b ∷ bs) (x ∷ f) p e h =
+arrived_mono k [] (b ∷ ys) f p e h = absurd (omega arith)
+arrived_mono k (a ∷ xs) [] f p e h = absurd (omega arith)
+arrived_mono k (a ∷ xs) (b ∷ ys) [] p e h = omega (arith, ints)
+arrived_mono k (a ∷ xs) (b ∷ ys) (x ∷ f) p e h =
     let first = brought_mono k x (number a p) (number b p) (h zero (omega arith)) in
-    let rest = arrived_mono k as bs f p (omega arith) (λ q lt. h (suc q) (omega arith)) in
+    let rest = arrived_mono k xs ys f p (omega arith) (λ q lt. h (suc q) (omega arith)) in
     omega (arith, ints, clamps)
 
 -- the lesser action leads nowhere above the greater one
@@ -139,7 +139,3 @@ module _ (g : GameData) (known : IsGame g) (plan : List (Vec ℕ Global)) (h : I
       not_all (λ (c : ClassData). list_any (λ o. misses o.0) c.options) (λ (c : ClassData). list_all (λ o. action_works g list f o.0) c.options) g.classes
       (λ c. not_any (λ o. action_works g list f o.0) c.options) in
       same_not _ _ (sym planned ∙ whole ∙ classes) ∙ sym (ap (λ k. answers_by k g list f) kind)
-
-pub if_some_weaker : {P Q : Type 0} (o : Option ℕ) → IfSome o (λ _. P) → (P → Q) → IfSome o (λ _. Q)
-if_some_weaker None h w = h
-if_some_weaker (Some x) h w = w h

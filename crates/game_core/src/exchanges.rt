@@ -1,6 +1,7 @@
 //! An entry is taken out, and vectors strictly below it take its place.
 
-ghost use Rattle.std.specs.Prelude.{◌≡◌, ◌<◌, ◌≤◌, ◌+◌, ℕ, ℤ, List, [], ◌∷◌, ◌++◌, false, true, length, vec_len, remove, IfOk, OnOk, IsTrue, ◌↔◌, slice_index_or};
+ghost use Rattle.std.specs.Prelude.{◌≡◌, ◌<◌, ◌≤◌, ◌+◌, ℕ, ℤ, List, [], ◌∷◌, ◌++◌, false, true, length, vec_len, remove, IfOk, OnOk, IsTrue, ◌↔◌, slice_index_or, Vec};
+ghost use Rattle.std.specs.declared.alloc.Global.{Global};
 ghost use Rattle.std.specs.List.{All, AllPairs};
 ghost use Rattle.game_form.specs.Game.{GameData, lanes};
 ghost use Rattle.game_form.specs.Vector.{IsVector, bound};
@@ -50,7 +51,7 @@ fn forget(notes: &mut Vec<Note>, pending: &mut Vec<bool>, gone: usize)
 }
 
 /// Takes place `gone` out of a column, where it has it.
-#[tactic(auto, using(crate::proofs::ColumnReads::column_removed, crate::proofs::ColumnReads::column_kept))]
+#[tactic(auto, using(crate::proofs::ColumnReads::column_kept))]
 fn drop_from(column: &mut Vec<Counters>, gone: usize)
     ensures { (g : GameData) (action : ℕ) (vectors : List (List ℤ)) → gone < length vectors → IsColumn g action vectors column.old.items → IsColumn g action (remove vectors gone) column.new.items }
 {
