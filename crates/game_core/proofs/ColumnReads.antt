@@ -1,16 +1,15 @@
 -- Columns as they are read and written.
-use Rattle.std.proofs.Common.{◌≡◌, ◌⊎◌, inl, inr, ℕ, zero, suc, ◌+◌, ◌<◌, ◌≤◌, true, List, [], ◌∷◌, ◌++◌, length, map, refl, sym, ◌∙◌, ap, subst, arith, length-append, length-set}
+use Rattle.std.proofs.Common.{◌≡◌, ◌⊎◌, inl, inr, ℕ, zero, suc, ◌+◌, ◌<◌, ◌≤◌, List, [], ◌∷◌, ◌++◌, length, map, refl, sym, ◌∙◌, ap, subst, arith, length-append, length-set}
 use Rattle.std.specs.Prelude.{ℤ, Vec, slice_index_or, slice_set}
-use Rattle.std.specs.List.{All, remove, list_any, list_all}
+use Rattle.std.specs.List.{All, remove}
 use Rattle.std.specs.declared.alloc.Global.{Global}
 use Rattle.std.proofs.lemmas.Bool.{cases_eq, cases_lt}
-use Rattle.std.proofs.lemmas.List.{get_or_append_left, get_or_push, get_or_default, get_or-set_same, get_or-set_other, map-set, length-map}
+use Rattle.std.proofs.lemmas.List.{get_or_append_left, get_or_push, get_or_default, get_or-set_same, get_or-set_other, length-map}
 use Rattle.std.proofs.lemmas.List.Edits.{get_or-remove_below, get_or-remove_above, length-remove}
-use Rattle.std.proofs.lemmas.List.Folds.{list_any_at}
 use Rattle.game_form.specs.Game.{GameData, IsGame, lanes}
 use Rattle.game_form.specs.Vector.{predecessor}
 use Rattle.game_core.specs.Columns.{AreColumns, IsColumn, column_at}
-use Rattle.game_core.specs.Front.{Misses, under}
+use Rattle.game_core.specs.Front.{Misses}
 use Rattle.game_core.proofs.Orders.{length_predecessor}
 
 pub column_of : (columns : List (Vec (List ℤ) Global)) (at : ℕ) (d : Vec (List ℤ) Global) → at < length columns → column_at columns at ≡ (slice_index_or columns at d).items

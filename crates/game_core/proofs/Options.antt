@@ -1,21 +1,16 @@
 -- Options and classes that others replace.
-use Rattle.std.proofs.Common.{◌≡◌, ℕ, zero, suc, ◌+◌, ◌<◌, ◌≤◌, Bool, true, false, not, ◌&&◌, ◌||◌, ◌⊎◌, List, [], ◌∷◌, ◌++◌, length, map, take, get_or, refl, sym, ◌∙◌, ap, subst, arith, inl, inr, Vec}
-use Rattle.std.specs.Prelude.{ℤ, pos, negsuc, ◌≤ℤ◌, slice_index_or}
-use Rattle.std.specs.Int.{int_max}
-use Rattle.std.specs.List.{All, list_any, list_all}
+use Rattle.std.proofs.Common.{◌≡◌, ℕ, zero, suc, ◌+◌, ◌<◌, ◌≤◌, Bool, true, false, ◌&&◌, ◌||◌, ◌⊎◌, List, [], ◌∷◌, length, map, take, refl, sym, ◌∙◌, ap, arith, inl, inr, Vec}
+use Rattle.std.specs.Prelude.{pos, ◌≤ℤ◌, slice_index_or}
+use Rattle.std.specs.List.{All, list_any}
 use Rattle.std.specs.declared.alloc.Global.{Global}
-use Rattle.std.proofs.lemmas.Int.{ints, clamps}
 use Rattle.std.proofs.lemmas.Bool.{cases_eq}
 use Rattle.std.proofs.lemmas.List.Folds.{Any-from_list_any, list_all_more}
 use Rattle.std.proofs.lemmas.List.Elements.{All-same, All-map, All-from_get_or}
-use Rattle.std.proofs.lemmas.List.FromFn.{get_or-map-range_with_len, length-map-range_with_len}
 use Rattle.game_form.specs.declared.actions.Step.{Step}
-use Rattle.game_form.specs.Game.{GameData, ClassData, IsGame, IsRow, IsClass, row_at, action_at, class_at, no_class, lanes}
-use Rattle.game_form.specs.Vector.{IsVector, lane, vector, number, size_of, brought, arrived, bound, successor}
+use Rattle.game_form.specs.Game.{GameData, ClassData, IsRow, IsClass, class_at, no_class}
+use Rattle.game_form.specs.Vector.{number, size_of}
 use Rattle.counter_vec.proofs.Along.{number_here, number_there}
-use Rattle.counter_vec.specs.Counters.{at_or_below}
-use Rattle.game_core.specs.Plan.{AreActions, IsAtMost, Replaces, Respects, each_planned, each_class}
-use Rattle.game_core.proofs.Orders.{below_from}
+use Rattle.game_core.specs.Plan.{AreActions, each_planned, each_class}
 
 -- the numbers of a row are 1 or 2
 pub row_numbers : (n low : ℕ) (row : List Step) → IsRow n low row → All (λ s. (pos 1 ≤ℤ s.number) × (s.number ≤ℤ pos 2)) row

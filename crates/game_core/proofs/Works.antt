@@ -1,14 +1,12 @@
 -- What columns and plans say of the game.
 use Rattle.std.proofs.Common.{◌≡◌, ℕ, zero, suc, ◌<◌, ◌≤◌, Bool, true, false, not, ◌&&◌, ◌||◌, List, [], ◌∷◌, length, refl, sym, ◌∙◌, ap, subst, arith, Vec}
-use Rattle.std.specs.Prelude.{ℤ, pos, negsuc, min, ◌≤ℤ◌, slice_index_or}
-use Rattle.std.specs.Int.{int_max}
+use Rattle.std.specs.Prelude.{ℤ, pos, negsuc, ◌≤ℤ◌, slice_index_or}
 use Rattle.std.specs.List.{All, list_any, list_all}
 use Rattle.std.specs.declared.alloc.Global.{Global}
 use Rattle.std.proofs.lemmas.Int.{ints, clamps}
-use Rattle.std.proofs.lemmas.Bool.{and_parts, or_left, or_right}
+use Rattle.std.proofs.lemmas.Bool.{and_parts}
 use Rattle.std.proofs.lemmas.List.Folds.{Any-from_list_any, list_any_at}
 use Rattle.std.proofs.lemmas.List.FromFn.{get_or-map-range_with_len, length-map-range_with_len}
-use Rattle.antichain_list.specs.Antichain.{covered}
 use Rattle.antichain_list.specs.Covering.{covered-trans}
 use Rattle.counter_vec.specs.Counters.{at_or_below, lexicographic}
 use Rattle.counter_vec.specs.Orders.{counters_order}
@@ -16,7 +14,7 @@ use Rattle.counter_vec.proofs.Galois.{galois}
 use Rattle.word_core.specs.declared.names.Kind.TheVariants.{First, Second}
 use Rattle.game_form.specs.declared.actions.Step.{Step}
 use Rattle.game_form.specs.Game.{GameData, ClassData, IsGame, row_at, action_at, lanes}
-use Rattle.game_form.specs.Vector.{IsVector, lane, vector, number, brought, arrived, bound, successor, predecessor}
+use Rattle.game_form.specs.Vector.{IsVector, lane, number, brought, arrived, bound, successor, predecessor}
 use Rattle.cpre_step.specs.Refinement.{action_works, answers, answers_by}
 use Rattle.game_core.specs.Columns.{AreColumns, column_at, some_covers, each_covers}
 use Rattle.game_core.specs.Front.{under}

@@ -1,4 +1,4 @@
-use Rattle.std.proofs.Common.{ℕ, ◌<◌, List, length}
+use Rattle.std.proofs.Common.{◌<◌, List, length}
 use Rattle.std.specs.Prelude.{ℤ}
 use Rattle.game_form.specs.Game.{GameData}
 use Rattle.game_core.specs.Columns.{AreColumns}

@@ -1,4 +1,4 @@
-use Rattle.std.proofs.Common.{◌<◌, ℕ, length, slice_index_or, sym, subst, arith}
+use Rattle.std.proofs.Common.{◌<◌, ℕ, length, slice_index_or, subst, arith}
 use Rattle.game_core.specs.Columns.{IsColumn}
 use Rattle.game_core.proofs.ColumnReads.{column_of, columns_set}
 use Rattle.game_core.proofs.searches.fill.Goals as goal
