@@ -44,9 +44,9 @@ all_removed P [] (suc i) h = tt
 all_removed P (x ∷ xs) zero h = h.1
 all_removed P (x ∷ xs) (suc i) h = (h.0, all_removed P xs i h.1)
 
-all_puts : (g : GameData) (list vectors : List (List ℤ)) → AreVectors g list → AreVectors g vectors → AreVectors g (puts list vectors)
-all_puts g list [] h k = h
-all_puts g list (v ∷ vectors) h k = all_puts g (added at_or_below lexicographic v list) vectors (all_added (IsVector g) at_or_below lexicographic v list k.0 h) k.1
+pub all_puts : (P : List ℤ → Type 0) (list vectors : List (List ℤ)) → AllByRecursion P list → AllByRecursion P vectors → AllByRecursion P (puts list vectors)
+all_puts P list [] h k = h
+all_puts P list (v ∷ vectors) h k = all_puts P (added at_or_below lexicographic v list) vectors (all_added P at_or_below lexicographic v list k.0 h) k.1
 
 unmarked : (n i : ℕ) → mark_at (replicate n false) i ≡ true → ⊥
 unmarked zero i h = cc
@@ -57,7 +57,7 @@ unmarked (suc n) (suc i) h = unmarked n i h
 pub exchanged_as : (g : GameData) (list next left : List (List ℤ)) (marks : List Bool) (place : ℕ) → AreVectors g list → AreVectors g left
     → next ≡ replaced list place left → marks ≡ replicate (length next) false → IsBoard (record { game = g; list = next; marks = marks })
 exchanged_as g list next left marks place vl vn next_is marks_is = record {
-  vectors = subst (AreVectors g) (sym next_is) (all_puts g (remove list place) left (all_removed (IsVector g) list place vl) vn);
+  vectors = subst (AreVectors g) (sym next_is) (all_puts (IsVector g) (remove list place) left (all_removed (IsVector g) list place vl) vn);
   marks = ap length marks_is ∙ length-replicate (length next) false;
   fresh = λ i lt h. absurd (unmarked (length next) i (sym (ap (λ ms. mark_at ms i) marks_is) ∙ h));
 }

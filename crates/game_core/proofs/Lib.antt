@@ -4,8 +4,12 @@ pub mod Extents
 pub mod First
 pub mod Kept
 pub mod Lists
+pub mod Options
 pub mod Orders
 pub mod PendingMarks
 pub mod Pieces
 pub mod Places
 pub mod Replacements
+pub mod Settled
+pub mod Weaker
+pub mod Works

@@ -1,17 +1,7 @@
 -- What a solver knows of the entries.
-use Rattle.std.specs.Prelude.{◌≡◌, ℕ, ℤ, List, length, vec_len, Vec}
+use Rattle.std.specs.Prelude.{◌≡◌, ℕ, List, vec_len}
 use Rattle.std.specs.List.{All}
-use Rattle.std.specs.declared.alloc.Global.{Global}
-use Rattle.game_form.specs.Game.{GameData, lanes}
 use Rattle.game_core.specs.declared.fronts.Note.{Note}
-
--- vectors with the game's lanes
-abbrev pub HaveLanes : GameData → List (List ℤ) → Type 0
-HaveLanes g = All (λ p. length p ≡ lanes g)
-
--- one column of such vectors for each action
-abbrev pub AreColumns : GameData → List (Vec (List ℤ) Global) → Type 0
-AreColumns g columns = (length columns ≡ length g.actions) × All (λ c. HaveLanes g c.items) columns
 
 -- notes with so many answers
 abbrev pub HaveAnswers : ℕ → List Note → Type 0

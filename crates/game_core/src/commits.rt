@@ -42,7 +42,8 @@ pub fn exchange(
     Ok(next)
 }
 
-fn put_left(list: &mut ListDownset<Counters>, left: Vec<Counters>) -> Result<(), AllocError>
+/// Puts vectors into a list, one after another.
+pub fn put_left(list: &mut ListDownset<Counters>, left: Vec<Counters>) -> Result<(), AllocError>
     ensures { IfOk result (λ _. list.new ≡ puts list.old left.items) }
 {
     for v in left {

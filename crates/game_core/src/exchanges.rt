@@ -1,12 +1,14 @@
 //! An entry is taken out, and vectors strictly below it take its place.
 
-ghost use Rattle.std.specs.Prelude.{◌≡◌, ◌<◌, ◌≤◌, ◌+◌, ℕ, ℤ, List, [], ◌∷◌, ◌++◌, false, true, length, vec_len, remove, IfOk, OnOk, IsTrue, ◌↔◌, slice_index_or};
+ghost use Rattle.std.specs.Prelude.{◌≡◌, ◌<◌, ◌≤◌, ◌+◌, ℕ, ℤ, List, [], ◌∷◌, ◌++◌, false, true, length, vec_len, remove, IfOk, OnOk, IsTrue, ◌↔◌, slice_index_or, Vec};
+ghost use Rattle.std.specs.declared.alloc.Global.{Global};
 ghost use Rattle.std.specs.List.{All, AllPairs};
 ghost use Rattle.game_form.specs.Game.{GameData, lanes};
 ghost use Rattle.game_form.specs.Vector.{IsVector, bound};
 ghost use Rattle.game_core.specs.Entries.{AreEntries};
 ghost use Rattle.game_core.specs.Front.{IsApart, IsPiece, Misses, under, extent};
-ghost use Rattle.game_core.specs.Known.{HaveAnswers, HaveLanes, AreColumns};
+ghost use Rattle.game_core.specs.Columns.{AreColumns, IsColumn};
+ghost use Rattle.game_core.specs.Known.{HaveAnswers};
 ghost use Rattle.counter_vec.specs.Counters.{at_or_below};
 
 use crate::fronts::{Note, forget_place, sum_of};
@@ -49,9 +51,9 @@ fn forget(notes: &mut Vec<Note>, pending: &mut Vec<bool>, gone: usize)
 }
 
 /// Takes place `gone` out of a column, where it has it.
-#[tactic(auto, using(crate::proofs::Pieces::lengths_removed))]
+#[tactic(auto, using(crate::proofs::ColumnReads::column_kept))]
 fn drop_from(column: &mut Vec<Counters>, gone: usize)
-    ensures { (n : ℕ) → All (λ p. length p ≡ n) column.old.items → All (λ p. length p ≡ n) column.new.items }
+    ensures { (g : GameData) (action : ℕ) (vectors : List (List ℤ)) → gone < length vectors → IsColumn g action vectors column.old.items → IsColumn g action (remove vectors gone) column.new.items }
 {
     if gone < column.len() {
         column.remove(gone);
@@ -59,9 +61,8 @@ fn drop_from(column: &mut Vec<Counters>, gone: usize)
 }
 
 /// Takes place `gone` out of each column that has it.
-
 fn drop_place(columns: &mut [Vec<Counters>], gone: usize)
-    ensures { (n : ℕ) → All (λ c. All (λ p. length p ≡ n) c.items) columns.old → All (λ c. All (λ p. length p ≡ n) c.items) columns.new }
+    ensures { (g : GameData) (vectors : List (List ℤ)) → gone < length vectors → AreColumns g vectors columns.old → AreColumns g (remove vectors gone) columns.new }
 {
     for at in 0..columns.len() {
         drop_from(&mut columns[at], gone);
@@ -99,7 +100,7 @@ fn push_entry(
 }
 
 /// Puts one piece of `f`, where it is comparable with no entry.
-#[tactic(auto, using(crate::proofs::Replacements::entries_pushed, crate::proofs::Replacements::misses_pushed, crate::proofs::Replacements::under_pushed))]
+#[tactic(auto, using(crate::proofs::Replacements::entries_pushed, crate::proofs::Replacements::misses_pushed, crate::proofs::Replacements::under_pushed, crate::proofs::ColumnReads::columns_pushed))]
 fn put_piece(
     alloc: Global,
     entries: &mut Entries,
@@ -114,6 +115,7 @@ fn put_piece(
     requires misses { Misses f.now entries.old.vectors.items }
     ensures entries { OnOk result (AreEntries g.now (vec_len note.now.answers) entries.new.vectors.items entries.new.pending.items entries.new.notes.items) }
     ensures misses { OnOk result (Misses f.now entries.new.vectors.items) }
+    ensures columns { OnOk result ((columns : List (Vec (List ℤ) Global)) → AreColumns g.now entries.old.vectors.items columns → AreColumns g.now entries.new.vectors.items columns) }
     ensures under { (old : List (List ℤ)) → All (λ e. under (f.now ∷ old) e ≡ true) entries.old.vectors.items → OnOk result (All (λ e. under (f.now ∷ old) e ≡ true) entries.new.vectors.items) }
 {
     if is_apart(&entries.vectors, &piece) {
@@ -138,6 +140,7 @@ fn put_pieces(
     requires misses { Misses f.now entries.old.vectors.items }
     ensures entries { OnOk result (AreEntries g.now (vec_len note.now.answers) entries.new.vectors.items entries.new.pending.items entries.new.notes.items) }
     ensures misses { OnOk result (Misses f.now entries.new.vectors.items) }
+    ensures columns { OnOk result ((columns : List (Vec (List ℤ) Global)) → AreColumns g.now entries.old.vectors.items columns → AreColumns g.now entries.new.vectors.items columns) }
     ensures under { OnOk result (All (λ e. under (f.now ∷ entries.old.vectors.items) e ≡ true) entries.new.vectors.items) }
 {
     for piece in pieces {
@@ -180,10 +183,10 @@ pub fn exchange(
 ) -> Result<(), AllocError>
     requires place { place < length entries.old.vectors.items }
     requires entries { AreEntries g.now slots entries.old.vectors.items entries.old.pending.items entries.old.notes.items }
-    requires columns { AreColumns g.now columns.old }
+    requires columns { AreColumns g.now entries.old.vectors.items columns.old }
     requires pieces { (f : List ℤ) → f ≡ slice_index_or entries.old.vectors.items place f → All (IsPiece f) pieces.items }
     ensures entries { OnOk result (AreEntries g.now slots entries.new.vectors.items entries.new.pending.items entries.new.notes.items) }
-    ensures columns { AreColumns g.now columns.new }
+    ensures columns { OnOk result (AreColumns g.now entries.new.vectors.items columns.new) }
     ensures falls { OnOk result (extent (bound g.now) (lanes g.now) entries.new.vectors.items < extent (bound g.now) (lanes g.now) entries.old.vectors.items) }
 {
     g.known();

@@ -3,14 +3,10 @@
 ghost use Rattle.std.specs.Prelude.{◌≡◌, ◌<◌, ◌≤◌, ◌+◌, ℕ, true, length, vec_len, IfOk, IfSome, IfNone, false, slice_index_or};
 ghost use Rattle.std.specs.List.{All};
 ghost use Rattle.counter_vec.specs.Counters.{at_or_below};
-ghost use Rattle.game_form.specs.Game.{lanes};
-ghost use Rattle.game_form.specs.Vector.{IsVector};
-ghost use Rattle.game_core.specs.Front.{Misses};
-ghost use Rattle.game_core.specs.Known.{HaveLanes};
+ghost use Rattle.game_core.specs.Front.{Misses, under};
 
 use antichain_list::Entry;
 use counter_vec::Counters;
-use game_form::Game;
 use std::alloc::{AllocError, Global};
 
 /// What is known of an entry.
@@ -44,9 +40,9 @@ pub fn no_answers(alloc: Global, count: usize) -> Result<Vec<Option<usize>>, All
 }
 
 /// So many columns, which are empty.
-pub fn no_columns(alloc: Global, g: &Game, count: usize) -> Result<Vec<Vec<Counters>>, AllocError>
+pub fn no_columns(alloc: Global, count: usize) -> Result<Vec<Vec<Counters>>, AllocError>
     ensures len { IfOk result (λ v. vec_len v ≡ count) }
-    ensures lanes { IfOk result (λ v. All (λ c. HaveLanes g.now c.items) v.items) }
+    ensures empty { IfOk result (λ v. All (λ c. length c.items ≡ 0) v.items) }
 {
     let mut columns = Vec::with_capacity(alloc, count)?;
     for _ in 0..count {
@@ -99,6 +95,7 @@ pub fn forget_place(answers: &mut [Option<usize>], gone: usize) -> bool {
 /// The place of an entry at or above `v`.
 pub fn find_cover(vectors: &[Counters], v: &Counters) -> Option<usize>
     ensures some { IfSome result (λ i. i < length vectors.now) }
+    ensures under { IfSome result (λ _. under vectors.now v.now ≡ true) }
     ensures none { IfNone result (Misses v.now vectors.now) }
 {
     for i in 0..vectors.len() {

@@ -1,16 +1,17 @@
 //! A look at one entry: whether the player can answer one step from it, and else what takes its place.
 
-ghost use Rattle.std.specs.Prelude.{◌≡◌, ◌<◌, ◌≤◌, ℕ, length, vec_len, IfOk, IfSome};
-ghost use Rattle.std.specs.List.{All};
+ghost use Rattle.std.specs.Prelude.{◌≡◌, ◌<◌, ◌≤◌, ℕ, true, length, vec_len, IfOk, IfSome, IfNone};
+ghost use Rattle.std.specs.List.{All, list_any, list_all};
+ghost use Rattle.cpre_step.specs.Refinement.{action_works, answers};
 ghost use Rattle.game_form.specs.Vector.{IsVector};
+ghost use Rattle.game_core.specs.Columns.{AreColumns};
 ghost use Rattle.game_core.specs.Front.{IsPiece};
-ghost use Rattle.game_core.specs.Known.{AreColumns};
+ghost use Rattle.game_core.specs.Plan.{AreActions, IsPlan, each_planned};
 ghost use Rattle.game_core.specs.Tried.{HasTried};
-ghost use Rattle.game_core.specs.Plan.{AreActions};
 
 use crate::fronts::Note;
 use crate::refinements::{refine_classes, refine_options};
-use crate::searches::{answer_each, fill, find_answer};
+use crate::searches::{answer_each, answer_one, fill};
 use counter_vec::Counters;
 use game_form::Game;
 use std::alloc::{AllocError, Global};
@@ -27,16 +28,18 @@ pub fn look(
     note: &mut Note,
     columns: &mut [Vec<Counters>],
 ) -> Result<Option<Vec<Counters>>, AllocError>
-    requires plan { All (λ c. AreActions (length g.now.actions) c.items) plan.now }
+    requires plan { IsPlan g.now plan.now }
     requires vectors { All (IsVector g.now) vectors.now }
     requires entry { IsVector g.now f.now }
     requires wide { All (λ c. vec_len c ≤ vec_len note.old.answers) plan.now }
     requires each { length plan.now ≤ vec_len note.old.answers }
-    requires columns { AreColumns g.now columns.old }
+    requires columns { AreColumns g.now vectors.now columns.old }
     ensures answers { vec_len note.new.answers ≡ vec_len note.old.answers }
-    ensures columns { AreColumns g.now columns.new }
+    ensures columns { AreColumns g.now vectors.now columns.new }
     ensures pieces { IfOk result (λ o. IfSome o (λ v. All (IsPiece f.now) v.items)) }
+    ensures stays { IfOk result (λ o. IfNone o (answers g.now vectors.now f.now ≡ true)) }
 {
+    g.known();
     match g.kind() {
         Kind::Second => look_second(alloc, g, plan, vectors, f, note, columns),
         Kind::First => look_first(alloc, g, plan, vectors, f, note, columns),
@@ -57,17 +60,16 @@ fn look_second(
     requires vectors { All (IsVector g.now) vectors.now }
     requires entry { IsVector g.now f.now }
     requires each { length plan.now ≤ vec_len note.old.answers }
-    requires columns { AreColumns g.now columns.old }
+    requires columns { AreColumns g.now vectors.now columns.old }
     ensures answers { vec_len note.new.answers ≡ vec_len note.old.answers }
-    ensures columns { AreColumns g.now columns.new }
+    ensures columns { AreColumns g.now vectors.now columns.new }
     ensures pieces { IfOk result (λ o. IfSome o (λ v. All (IsPiece f.now) v.items)) }
+    ensures stays { IfOk result (λ o. IfNone o (each_planned (action_works g.now vectors.now f.now) plan.now ≡ true)) }
 {
+    g.known();
     for c in 0..plan.len() {
-        if note.answers[c].is_some() {
-            continue;
-        }
-        fill(alloc, g, vectors, columns, &plan[c])?;
-        match find_answer(columns, f, &plan[c]) {
+        let known = note.answers[c];
+        match answer_one(alloc, g, vectors, columns, f, &plan[c], known)? {
             Some(place) => note.answers[c] = Some(place),
             None => return Ok(Some(refine_options(alloc, f, columns, &plan[c])?)),
         }
@@ -85,8 +87,8 @@ fn fill_all(
 ) -> Result<(), AllocError>
     requires plan { All (λ c. AreActions (length g.now.actions) c.items) plan.now }
     requires vectors { All (IsVector g.now) vectors.now }
-    requires columns { AreColumns g.now columns.old }
-    ensures { AreColumns g.now columns.new }
+    requires columns { AreColumns g.now vectors.now columns.old }
+    ensures { AreColumns g.now vectors.now columns.new }
 {
     for c in 0..plan.len() {
         fill(alloc, g, vectors, columns, &plan[c])?;
@@ -112,7 +114,7 @@ fn try_classes(
     requires plan { All (λ c. AreActions (length columns.now) c.items) plan.now }
     requires wide { All (λ c. vec_len c ≤ vec_len note.old.answers) plan.now }
     ensures answers { vec_len note.new.answers ≡ vec_len note.old.answers }
-    ensures tried { IfOk result (HasTried f.now columns.now (length plan.now)) }
+    ensures tried { IfOk result (HasTried f.now columns.now plan.now) }
 {
     let mut failing = Vec::new(alloc);
     for c in 0..plan.len() {
@@ -138,11 +140,13 @@ fn look_first(
     requires vectors { All (IsVector g.now) vectors.now }
     requires entry { IsVector g.now f.now }
     requires wide { All (λ c. vec_len c ≤ vec_len note.old.answers) plan.now }
-    requires columns { AreColumns g.now columns.old }
+    requires columns { AreColumns g.now vectors.now columns.old }
     ensures answers { vec_len note.new.answers ≡ vec_len note.old.answers }
-    ensures columns { AreColumns g.now columns.new }
+    ensures columns { AreColumns g.now vectors.now columns.new }
     ensures pieces { IfOk result (λ o. IfSome o (λ v. All (IsPiece f.now) v.items)) }
+    ensures stays { IfOk result (λ o. IfNone o (list_any (λ c. list_all (action_works g.now vectors.now f.now) c.items) plan.now ≡ true)) }
 {
+    g.known();
     fill_all(alloc, g, plan, vectors, columns)?;
     match try_classes(alloc, plan, f, note, columns)? {
         Tried::Works => Ok(None),

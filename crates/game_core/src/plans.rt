@@ -3,37 +3,66 @@
 //! Two actions of one class are compared row by row. For kind second the one that leads nowhere above the other is
 //! enough; for kind first the other one is, since both have to work. Classes are compared likewise.
 
-ghost use Rattle.std.specs.Prelude.{◌≡◌, ◌<◌, ◌≤◌, ◌+◌, ℕ, length, vec_len, IfOk, slice_index_or};
-ghost use Rattle.std.specs.List.{All};
-ghost use Rattle.game_core.specs.Plan.{AreActions};
+ghost use Rattle.std.specs.Prelude.{◌≡◌, ◌<◌, ◌≤◌, ◌+◌, ◌||◌, ◌&&◌, ◌≤ℤ◌, ℕ, Bool, true, List, length, map, pos, vec_len, IfOk, IsTrue, slice_index_or};
+ghost use Rattle.std.specs.List.{All, list_any, list_all};
+ghost use Rattle.game_form.specs.Game.{lanes, action_at, row_at};
+ghost use Rattle.game_form.specs.Vector.{number, size_of};
+ghost use Rattle.game_core.specs.Plan.{AreActions, IsAtMost, Replaces, Respects, IsPlan, each_planned};
 
-use game_form::{Action, Class, Game, Row};
+use game_form::{Class, Game, Step};
 use std::alloc::{AllocError, Global};
 use word_core::Kind;
 
-/// Whether no step of `a` is above the step of `b` to the same lane.
-fn row_at_most(a: &Row, b: &Row) -> bool {
-    a.steps.iter().all(|x| b.steps.iter().any(|y| x.to == y.to && x.number <= y.number))
+/// Whether a step leads to lane `to` with at least this number.
+fn leads_to(steps: &[Step], to: u32, least: i16) -> bool
+    requires steps { All (λ s. (pos 1 ≤ℤ s.number) × (s.number ≤ℤ pos 2)) steps.now }
+    ensures { IsTrue result → size_of least ≤ number steps.now to }
+{
+    for step in steps {
+        if step.to == to {
+            return least <= step.number;
+        }
+    }
+    false
 }
 
-/// Whether no row of `a` is above the row of `b` for the same lane.
-fn action_at_most(a: &Action, b: &Action) -> bool {
-    for (x, y) in a.rows.iter().zip(&b.rows) {
-        if !row_at_most(x, y) {
+/// Whether no step of `a` is above the step of `b` to the same lane.
+fn row_at_most(a: &[Step], b: &[Step]) -> bool
+    requires a { All (λ s. (pos 1 ≤ℤ s.number) × (s.number ≤ℤ pos 2)) a.now }
+    requires b { All (λ s. (pos 1 ≤ℤ s.number) × (s.number ≤ℤ pos 2)) b.now }
+    ensures { IsTrue result → (p : ℕ) → number a.now p ≤ number b.now p }
+{
+    for step in a {
+        if !leads_to(b, step.to, step.number) {
             return false;
         }
     }
     true
 }
 
-/// Whether option `b` of a class needn't be tried where option `a` is.
+/// Whether no row of `a` is above the row of `b` for the same lane.
+fn action_at_most(g: &Game, a: u64, b: u64) -> bool
+    requires a { a < length g.now.actions }
+    requires b { b < length g.now.actions }
+    ensures { IsTrue result → IsAtMost g.now a b }
+{
+    for q in 0..g.lanes() {
+        if !row_at_most(&g.row(a, q).steps, &g.row(b, q).steps) {
+            return false;
+        }
+    }
+    true
+}
+
+/// Whether option `b` needn't be tried where option `a` is.
 fn replaces(g: &Game, a: u64, b: u64) -> bool
     requires a { a < length g.now.actions }
     requires b { b < length g.now.actions }
+    ensures { IsTrue result → Replaces g.now a b }
 {
     match g.kind() {
-        Kind::Second => action_at_most(g.action(a), g.action(b)),
-        Kind::First => action_at_most(g.action(b), g.action(a)),
+        Kind::Second => action_at_most(g, a, b),
+        Kind::First => action_at_most(g, b, a),
     }
 }
 
@@ -41,9 +70,10 @@ fn replaces(g: &Game, a: u64, b: u64) -> bool
 fn some_replaces(g: &Game, options: &[u64], b: u64) -> bool
     requires options { AreActions (length g.now.actions) options.now }
     requires b { b < length g.now.actions }
+    ensures { IsTrue result → (test : ℕ → Bool) → Respects g.now test → test b ≡ true → list_any test options.now ≡ true }
 {
     for a in options {
-        if *a != b && replaces(g, *a, b) {
+        if replaces(g, *a, b) {
             return true;
         }
     }
@@ -51,9 +81,8 @@ fn some_replaces(g: &Game, options: &[u64], b: u64) -> bool
 }
 
 /// The actions of a class in order.
-fn actions_of(alloc: Global, g: &Game, class: &Class) -> Result<Vec<u64>, AllocError>
-    requires { (i : ℕ) (d : ℕ × ℕ) → i < length class.now.options → (slice_index_or class.now.options i d).0 < length g.now.actions }
-    ensures { IfOk result (λ v. AreActions (length g.now.actions) v.items) }
+fn actions_of(alloc: Global, class: &Class) -> Result<Vec<u64>, AllocError>
+    ensures { IfOk result (λ v. v.items ≡ map (λ o. o.0) class.now.options) }
 {
     let mut actions = Vec::with_capacity(alloc, class.options.len())?;
     for (action, _) in &class.options {
@@ -62,73 +91,102 @@ fn actions_of(alloc: Global, g: &Game, class: &Class) -> Result<Vec<u64>, AllocE
     Ok(actions)
 }
 
-/// The options that no other one of them replaces.
+/// Those options that `b` doesn't replace, and `b`.
+fn with_option(alloc: Global, g: &Game, options: &[u64], b: u64) -> Result<Vec<u64>, AllocError>
+    requires options { AreActions (length g.now.actions) options.now }
+    requires b { b < length g.now.actions }
+    ensures actions { IfOk result (λ v. AreActions (length g.now.actions) v.items) }
+    ensures same { IfOk result (λ v. (test : ℕ → Bool) → Respects g.now test → list_any test v.items ≡ (list_any test options.now || test b)) }
+{
+    let mut kept = Vec::new(alloc);
+    for a in options {
+        if !replaces(g, b, *a) {
+            kept.push(*a)?;
+        }
+    }
+    kept.push(b)?;
+    Ok(kept)
+}
+
+/// Options that stand for these: none of them replaces another one.
 fn least_options(alloc: Global, g: &Game, options: &[u64]) -> Result<Vec<u64>, AllocError>
     requires { AreActions (length g.now.actions) options.now }
-    ensures { IfOk result (λ v. AreActions (length g.now.actions) v.items) }
+    ensures actions { IfOk result (λ v. AreActions (length g.now.actions) v.items) }
+    ensures same { IfOk result (λ v. (test : ℕ → Bool) → Respects g.now test → list_any test v.items ≡ list_any test options.now) }
 {
     let mut kept = Vec::new(alloc);
     for b in options {
-        if !some_replaces(g, options, *b) {
-            kept.push(*b)?;
+        if !some_replaces(g, &kept, *b) {
+            kept = with_option(alloc, g, &kept, *b)?;
         }
     }
     Ok(kept)
 }
 
-/// Whether each option of `a` is one of `b` or is replaced by one.
+/// Whether each option of `a` is replaced by one of `b`.
 ///
 /// A class with the options `b` needn't be looked at then where one with the options `a` is: for kind second it
 /// works wherever that one works, and for kind first that one works wherever it does.
 fn all_replaced(g: &Game, a: &[u64], b: &[u64]) -> bool
     requires a { AreActions (length g.now.actions) a.now }
     requires b { AreActions (length g.now.actions) b.now }
+    ensures { IsTrue result → (test : ℕ → Bool) → Respects g.now test → list_any test a.now ≡ true → list_any test b.now ≡ true }
 {
     for x in a {
-        if !b.contains(x) && !some_replaces(g, b, *x) {
+        if !some_replaces(g, b, *x) {
             return false;
         }
     }
     true
 }
 
-/// The actions to try of each class, in order.
-fn reduced_classes(alloc: Global, g: &Game) -> Result<Vec<Vec<u64>>, AllocError>
-    ensures { IfOk result (λ v. All (λ c. AreActions (length g.now.actions) c.items) v.items) }
-{
-    let mut classes = Vec::new(alloc);
-    for c in 0..g.classes().len() {
-        let options = actions_of(alloc, g, g.class(c as u64))?;
-        classes.push(least_options(alloc, g, &options)?)?;
-    }
-    Ok(classes)
-}
-
-/// Whether class `c` needn't be looked at, since another one is; of two that say the same the first is.
-fn is_needless(g: &Game, classes: &[Vec<u64>], c: usize) -> bool
+/// Whether a class with these options needn't be looked at, since one of the list is.
+fn is_needless(g: &Game, classes: &[Vec<u64>], options: &[u64]) -> bool
     requires classes { All (λ v. AreActions (length g.now.actions) v.items) classes.now }
-    requires c { c < length classes.now }
+    requires options { AreActions (length g.now.actions) options.now }
+    ensures { IsTrue result → (test : ℕ → Bool) → Respects g.now test → each_planned test classes.now ≡ true → list_any test options.now ≡ true }
 {
-    for d in 0..classes.len() {
-        if d != c
-            && all_replaced(g, &classes[d], &classes[c])
-            && (d < c || !all_replaced(g, &classes[c], &classes[d]))
-        {
+    for class in classes {
+        if all_replaced(g, class, options) {
             return true;
         }
     }
     false
 }
 
+/// The classes that are to be looked at where one with these options is, and that one.
+fn with_class(
+    alloc: Global,
+    g: &Game,
+    classes: Vec<Vec<u64>>,
+    options: Vec<u64>,
+) -> Result<Vec<Vec<u64>>, AllocError>
+    requires classes { All (λ v. AreActions (length g.now.actions) v.items) classes.items }
+    requires options { AreActions (length g.now.actions) options.items }
+    ensures actions { IfOk result (λ v. All (λ c. AreActions (length g.now.actions) c.items) v.items) }
+    ensures same { IfOk result (λ v. (test : ℕ → Bool) → Respects g.now test → each_planned test v.items ≡ (each_planned test classes.items && list_any test options.items)) }
+{
+    let mut needed = Vec::new(alloc);
+    for class in classes {
+        if !all_replaced(g, &options, &class) {
+            needed.push(class)?;
+        }
+    }
+    needed.push(options)?;
+    Ok(needed)
+}
+
 /// The actions to try, class by class.
 pub fn plan(alloc: Global, g: &Game) -> Result<Vec<Vec<u64>>, AllocError>
-    ensures { IfOk result (λ v. All (λ c. AreActions (length g.now.actions) c.items) v.items) }
+    ensures { IfOk result (λ v. IsPlan g.now v.items) }
 {
-    let classes = reduced_classes(alloc, g)?;
+    g.known();
     let mut needed = Vec::new(alloc);
-    for c in 0..classes.len() {
-        if !is_needless(g, &classes, c) {
-            needed.push(classes[c].clone()?)?;
+    for c in 0..g.classes().len() {
+        let all = actions_of(alloc, g.class(c as u64))?;
+        let options = least_options(alloc, g, &all)?;
+        if !is_needless(g, &needed, &options) {
+            needed = with_class(alloc, g, needed, options)?;
         }
     }
     Ok(needed)

@@ -5,7 +5,6 @@ ghost use Rattle.std.specs.List.{All, filter};
 ghost use Rattle.counter_vec.specs.Counters.{at_or_below, AreCounters};
 ghost use Rattle.game_core.specs.Columns.{column_at, MissesAll};
 ghost use Rattle.game_core.specs.Front.{IsPiece, Misses};
-ghost use Rattle.game_core.specs.Known.{HaveLanes};
 ghost use Rattle.game_core.specs.Plan.{AreActions};
 ghost use Rattle.game_form.specs.Game.{lanes};
 ghost use Rattle.game_form.specs.Vector.{IsVector};

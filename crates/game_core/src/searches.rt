@@ -1,21 +1,22 @@
 //! Whether a player can answer one step from an entry.
 
-ghost use Rattle.std.specs.Prelude.{◌≡◌, ◌<◌, ◌≤◌, ◌+◌, ℕ, List, ℤ, length, map, vec_len, IfOk, IfSome, IfNone, OnOk, slice_index_or};
-ghost use Rattle.std.specs.List.{All};
+ghost use Rattle.std.specs.Prelude.{◌≡◌, ◌<◌, ◌≤◌, ◌+◌, ℕ, List, ℤ, true, length, map, vec_len, IfOk, IfSome, IfNone, IsTrue, OnOk, slice_index_or};
+ghost use Rattle.std.specs.List.{All, list_any};
+ghost use Rattle.cpre_step.specs.Refinement.{action_works};
 ghost use Rattle.game_form.specs.Game.{lanes};
 ghost use Rattle.game_form.specs.Vector.{IsVector};
-ghost use Rattle.game_core.specs.Front.{Misses};
-ghost use Rattle.game_core.specs.Known.{HaveLanes};
+ghost use Rattle.game_core.specs.Front.{Misses, under};
 ghost use Rattle.game_core.specs.Plan.{AreActions};
-ghost use Rattle.game_core.specs.Columns.{column_at, MissesAll};
+ghost use Rattle.game_core.specs.Columns.{AreColumns, IsColumn, MissesAll, column_at, some_covers, each_covers};
 
 use crate::fronts::find_cover;
+use antichain_list::Entry;
 use counter_vec::Counters;
 use game_form::Game;
 use std::alloc::{AllocError, Global};
 
 /// Adds to a column the predecessors that it lacks.
-#[tactic(auto, using(crate::proofs::Orders::length_predecessor))]
+#[tactic(auto, using(crate::proofs::ColumnReads::column_pushed))]
 fn fill_column(
     alloc: Global,
     g: &Game,
@@ -25,10 +26,9 @@ fn fill_column(
 ) -> Result<(), AllocError>
     requires vectors { All (IsVector g.now) vectors.now }
     requires action { action < length g.now.actions }
-    requires lanes { HaveLanes g.now column.old.items }
-    ensures lanes { HaveLanes g.now column.new.items }
+    requires column { IsColumn g.now action vectors.now column.old.items }
+    ensures { IsColumn g.now action vectors.now column.new.items }
 {
-    g.known();
     for j in column.len()..vectors.len() {
         column.push(vectors[j].pre(alloc, g, action)?)?;
     }
@@ -45,9 +45,8 @@ pub fn fill(
 ) -> Result<(), AllocError>
     requires vectors { All (IsVector g.now) vectors.now }
     requires options { AreActions (length g.now.actions) options.now }
-    requires len { length columns.old ≡ length g.now.actions }
-    requires lanes { All (λ c. HaveLanes g.now c.items) columns.old }
-    ensures { All (λ c. HaveLanes g.now c.items) columns.new }
+    requires columns { AreColumns g.now vectors.now columns.old }
+    ensures { AreColumns g.now vectors.now columns.new }
 {
     for action in options {
         let column = &mut columns[*action as usize];
@@ -56,10 +55,25 @@ pub fn fill(
     Ok(())
 }
 
-/// An entry that answers one of these options.
-pub fn find_answer(columns: &[Vec<Counters>], f: &Counters, options: &[u64]) -> Option<usize>
+/// Whether the entry of a place answers one of these options.
+fn is_answered(columns: &[Vec<Counters>], f: &Counters, options: &[u64], place: usize) -> bool
     requires { AreActions (length columns.now) options.now }
-    ensures { IfNone result (MissesAll f.now columns.now options.now) }
+    ensures { IsTrue result → some_covers f.now columns.now options.now ≡ true }
+{
+    for action in options {
+        let column = &columns[*action as usize];
+        if place < column.len() && f.at_or_below(&column[place]) {
+            return true;
+        }
+    }
+    false
+}
+
+/// An entry that answers one of these options.
+fn find_answer(columns: &[Vec<Counters>], f: &Counters, options: &[u64]) -> Option<usize>
+    requires { AreActions (length columns.now) options.now }
+    ensures some { IfSome result (λ _. some_covers f.now columns.now options.now ≡ true) }
+    ensures none { IfNone result (MissesAll f.now columns.now options.now) }
 {
     for action in options {
         if let Some(place) = find_cover(&columns[*action as usize], f) {
@@ -67,6 +81,34 @@ pub fn find_answer(columns: &[Vec<Counters>], f: &Counters, options: &[u64]) -> 
         }
     }
     None
+}
+
+/// An entry that answers one of these options: the known one where it does. None where no entry does.
+pub fn answer_one(
+    alloc: Global,
+    g: &Game,
+    vectors: &[Counters],
+    columns: &mut [Vec<Counters>],
+    f: &Counters,
+    options: &[u64],
+    known: Option<usize>,
+) -> Result<Option<usize>, AllocError>
+    requires vectors { All (IsVector g.now) vectors.now }
+    requires options { AreActions (length g.now.actions) options.now }
+    requires entry { IsVector g.now f.now }
+    requires columns { AreColumns g.now vectors.now columns.old }
+    ensures columns { AreColumns g.now vectors.now columns.new }
+    ensures some { IfOk result (λ o. IfSome o (λ _. list_any (action_works g.now vectors.now f.now) options.now ≡ true)) }
+    ensures none { IfOk result (λ o. IfNone o (MissesAll f.now columns.new options.now)) }
+{
+    g.known();
+    if let Some(place) = known {
+        if is_answered(columns, f, options, place) {
+            return Ok(Some(place));
+        }
+    }
+    fill(alloc, g, vectors, columns, options)?;
+    Ok(find_answer(columns, f, options))
 }
 
 /// Looks for an entry for each of these options: the first option that has none.
@@ -78,7 +120,8 @@ pub fn answer_each(
 ) -> Option<u64>
     requires options { AreActions (length columns.now) options.now }
     requires room { length options.now ≤ length answers.old }
-    ensures { IfSome result (λ a. (a < length columns.now) × Misses f.now (column_at columns.now a)) }
+    ensures some { IfSome result (λ a. (a < length columns.now) × Misses f.now (column_at columns.now a)) }
+    ensures none { IfNone result (each_covers f.now columns.now options.now ≡ true) }
 {
     for i in 0..options.len() {
         let action = options[i];

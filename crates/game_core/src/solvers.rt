@@ -1,15 +1,19 @@
 //! The game, solved by one thread.
 
-ghost use Rattle.std.specs.Prelude.{◌≡◌, ◌<◌, ◌≤◌, ℕ, ℤ, List, length, vec_len, IfOk, IfSome, OnOk, slice_index_or};
+ghost use Rattle.std.specs.Prelude.{◌≡◌, ◌<◌, ◌≤◌, ℕ, ℤ, List, [], true, false, length, vec_len, IfOk, IfSome, IfNone, IsTrue, OnOk, slice_index_or};
 ghost use Rattle.std.specs.List.{All};
 ghost use Rattle.game_form.specs.Game.{lanes};
 ghost use Rattle.game_form.specs.Vector.{IsVector, bound};
+ghost use Rattle.cpre_step.specs.Refinement.{answers};
+ghost use Rattle.game_core.specs.Board.{puts};
+ghost use Rattle.game_core.specs.Columns.{AreColumns};
 ghost use Rattle.game_core.specs.Entries.{AreEntries};
-ghost use Rattle.game_core.specs.Front.{IsPiece, extent};
-ghost use Rattle.game_core.specs.Known.{AreColumns, HaveAnswers};
-ghost use Rattle.game_core.specs.Plan.{AreActions};
-ghost use Rattle.game_core.specs.Solved.{HasVectors};
+ghost use Rattle.game_core.specs.Front.{IsPiece, extent, under};
+ghost use Rattle.game_core.specs.Known.{HaveAnswers};
+ghost use Rattle.game_core.specs.Plan.{IsPlan};
+ghost use Rattle.game_core.specs.Solved.{IsSettled, IsSolution};
 
+use crate::commits::put_left;
 use crate::exchanges::{Entries, exchange};
 use crate::fronts::{Note, find_cover, next_entry, no_answers, no_columns, sum_of};
 use crate::looks::look;
@@ -35,7 +39,40 @@ struct Found {
     pieces: Vec<Counters>,
 }
 
+/// Looks at each entry once: one that has to be replaced, or None where the player can answer one step from each.
+fn look_at_all(
+    alloc: Global,
+    g: &Game,
+    plan: &[Vec<u64>],
+    vectors: &[Counters],
+    notes: &mut [Note],
+    columns: &mut [Vec<Counters>],
+    slots: usize,
+) -> Result<Option<Found>, AllocError>
+    requires plan { IsPlan g.now plan.now }
+    requires wide { All (λ c. vec_len c ≤ slots) plan.now }
+    requires each { length plan.now ≤ slots }
+    requires vectors { All (IsVector g.now) vectors.now }
+    requires notes { length notes.old ≡ length vectors.now }
+    requires answers { HaveAnswers slots notes.old }
+    requires columns { AreColumns g.now vectors.now columns.old }
+    ensures answers { HaveAnswers slots notes.new }
+    ensures columns { AreColumns g.now vectors.now columns.new }
+    ensures found { IfOk result (λ o. IfSome o (λ r. (r.place < length vectors.now) × ((f : List ℤ) → f ≡ slice_index_or vectors.now r.place f → All (IsPiece f) r.pieces.items))) }
+    ensures closed { IfOk result (λ o. IfNone o (All (λ f. answers g.now vectors.now f ≡ true) vectors.now)) }
+{
+    for place in 0..vectors.len() {
+        let note = &mut notes[place];
+        if let Some(pieces) = look(alloc, g, plan, vectors, &vectors[place], note, columns)? {
+            return Ok(Some(Found { place, pieces }));
+        }
+    }
+    Ok(None)
+}
+
 /// Looks at entries until one has to be replaced. None where the player can answer one step from each.
+///
+/// The marks say which entries are worth a look. At the end all are looked at once more, with the known answers.
 #[tactic(auto, using(crate::proofs::PendingMarks::marked_falls))]
 fn settle(
     alloc: Global,
@@ -47,33 +84,27 @@ fn settle(
     columns: &mut [Vec<Counters>],
     slots: usize,
 ) -> Result<Option<Found>, AllocError>
-    requires plan { All (λ c. AreActions (length g.now.actions) c.items) plan.now }
+    requires plan { IsPlan g.now plan.now }
     requires wide { All (λ c. vec_len c ≤ slots) plan.now }
     requires each { length plan.now ≤ slots }
     requires vectors { All (IsVector g.now) vectors.now }
     requires pending { length pending.old ≡ length vectors.now }
     requires notes { length notes.old ≡ length vectors.now }
     requires answers { HaveAnswers slots notes.old }
-    requires columns { AreColumns g.now columns.old }
+    requires columns { AreColumns g.now vectors.now columns.old }
     ensures answers { HaveAnswers slots notes.new }
-    ensures columns { AreColumns g.now columns.new }
+    ensures columns { AreColumns g.now vectors.now columns.new }
     ensures found { IfOk result (λ o. IfSome o (λ r. (r.place < length vectors.now) × ((f : List ℤ) → f ≡ slice_index_or vectors.now r.place f → All (IsPiece f) r.pieces.items))) }
+    ensures closed { IfOk result (λ o. IfNone o (All (λ f. answers g.now vectors.now f ≡ true) vectors.now)) }
 {
     while let Some(place) = next_entry(pending, notes) {
-        match look(
-            alloc,
-            g,
-            plan,
-            vectors,
-            &vectors[place],
-            &mut notes[place],
-            columns,
-        )? {
+        let note = &mut notes[place];
+        match look(alloc, g, plan, vectors, &vectors[place], note, columns)? {
             Some(pieces) => return Ok(Some(Found { place, pieces })),
             None => pending[place] = false,
         }
     }
-    Ok(None)
+    look_at_all(alloc, g, plan, vectors, notes, columns, slots)
 }
 
 /// How many answers an entry has: one for each class, or for each option of a class.
@@ -88,31 +119,12 @@ fn slots_of(plan: &[Vec<u64>]) -> usize
     most
 }
 
-/// Puts a vector of the game into a list of them.
-fn put_vector(list: &mut ListDownset<Counters>, v: Counters, g: &Game) -> Result<(), AllocError>
-    requires v { IsVector g.now v }
-    requires list { All (IsVector g.now) list.old }
-    ensures { All (IsVector g.now) list.new }
-{
-    match list.put(v) {
-        Ok(()) => Ok(()),
-        Err(_) => Err(AllocError),
-    }
-}
-
 /// The list of these vectors.
-fn downset_of(
-    alloc: Global,
-    vectors: Vec<Counters>,
-    g: &Game,
-) -> Result<ListDownset<Counters>, AllocError>
-    requires { All (IsVector g.now) vectors.items }
-    ensures { IfOk result (λ d. All (IsVector g.now) d) }
+fn downset_of(alloc: Global, vectors: Vec<Counters>) -> Result<ListDownset<Counters>, AllocError>
+    ensures { IfOk result (λ d. d ≡ puts [] vectors.items) }
 {
     let mut list = ListDownset::empty(alloc);
-    for v in vectors {
-        put_vector(&mut list, v, g)?;
-    }
+    put_left(&mut list, vectors)?;
     Ok(list)
 }
 
@@ -134,7 +146,10 @@ fn open_entries(alloc: Global, g: &Game, slots: usize) -> Result<Entries, AllocE
 }
 
 /// Whether no entry is at or above the initial vector, where only that is asked.
-fn is_lost(vectors: &[Counters], initial: &Counters, whole: bool) -> bool {
+fn is_lost(vectors: &[Counters], initial: &Counters, whole: bool) -> bool
+    ensures asked { IsTrue result → whole ≡ false }
+    ensures covered { result ≡ false → whole ≡ false → under vectors.now initial.now ≡ true }
+{
     !whole && find_cover(vectors, initial).is_none()
 }
 
@@ -148,12 +163,13 @@ fn refine_all(
     slots: usize,
     whole: bool,
 ) -> Result<bool, AllocError>
-    requires plan { All (λ c. AreActions (length g.now.actions) c.items) plan.now }
+    requires plan { IsPlan g.now plan.now }
     requires wide { All (λ c. vec_len c ≤ slots) plan.now }
     requires each { length plan.now ≤ slots }
     requires entries { AreEntries g.now slots entries.old.vectors.items entries.old.pending.items entries.old.notes.items }
-    requires columns { AreColumns g.now columns.old }
-    ensures { IfOk result (λ _. All (IsVector g.now) entries.new.vectors.items) }
+    requires columns { AreColumns g.now entries.old.vectors.items columns.old }
+    ensures lost { IfOk result (λ b. b ≡ true → whole ≡ false) }
+    ensures settled { IfOk result (λ b. b ≡ false → IsSettled g.now whole entries.new.vectors.items) }
 {
     let initial = Counters::initial(alloc, g)?;
     'refining: while let Some(found) = settle(
@@ -176,21 +192,21 @@ fn refine_all(
 
 /// The answer of `solve` on a game that isn't needed any more.
 pub fn solve_alone(alloc: Global, g: Game, whole: bool) -> Result<Solved, AllocError>
-    ensures { IfOk result (HasVectors g) }
+    ensures { IfOk result (IsSolution g whole) }
 {
     solve(alloc, &g, whole)
 }
 
 /// The maximal held vectors; where `whole` is false and the initial vector isn't held, Lost instead.
 pub fn solve(alloc: Global, g: &Game, whole: bool) -> Result<Solved, AllocError>
-    ensures { IfOk result (HasVectors g.now) }
+    ensures { IfOk result (IsSolution g.now whole) }
 {
     let plan = plan(alloc, g)?;
     let slots = slots_of(&plan);
     let mut entries = open_entries(alloc, g, slots)?;
-    let mut columns = no_columns(alloc, g, g.actions().len())?;
+    let mut columns = no_columns(alloc, g.actions().len())?;
     if refine_all(alloc, g, &plan, &mut entries, &mut columns, slots, whole)? {
         return Ok(Solved::Lost);
     }
-    Ok(Solved::Held(downset_of(alloc, entries.vectors, g)?))
+    Ok(Solved::Held(downset_of(alloc, entries.vectors)?))
 }

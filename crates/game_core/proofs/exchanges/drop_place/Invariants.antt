@@ -1,6 +1,9 @@
-use Rattle.std.proofs.Common.{◌≡◌, ℕ, length}
-use Rattle.std.specs.List.{All}
+use Rattle.std.proofs.Common.{◌<◌, List, length}
+use Rattle.std.specs.Prelude.{ℤ}
+use Rattle.game_form.specs.Game.{GameData}
+use Rattle.game_core.specs.Columns.{AreColumns}
+use Rattle.game_core.proofs.ColumnReads.{AreDropped}
 use Rattle.game_core.proofs.exchanges.drop_place.Given as goal
 
 abbrev pub invariant-loop-at : goal.invariant-loop-at
-invariant-loop-at l = (n : ℕ) → All (λ c. All (λ p. length p ≡ n) c.items) l.initial.columns → All (λ c. All (λ p. length p ≡ n) c.items) l.columns
+invariant-loop-at l = (g : GameData) (vectors : List (List ℤ)) → l.gone < length vectors → AreColumns g vectors l.initial.columns → AreDropped g vectors l.gone l.at l.columns

@@ -1,5 +1,8 @@
-use Rattle.std.proofs.Common.{◌≡◌, ◌∙◌, vec_len}
-use Rattle.game_form.specs.Game.{lanes}
+use Rattle.std.proofs.Common.{◌≡◌, List, Vec, sym, subst, vec_len}
+use Rattle.std.specs.Prelude.{ℤ}
+use Rattle.std.specs.declared.alloc.Global.{Global}
+use Rattle.game_core.specs.Columns.{AreColumns}
+use Rattle.std.proofs.lemmas.Result.{on_ok_weaker}
 use Rattle.game_core.proofs.Replacements.{entries_removed}
 use Rattle.game_core.proofs.exchanges.exchange.Goals as goal
 
@@ -14,4 +17,11 @@ put_pieces-requires-clause-entries c =
     (c.take_entry-f.ensures.answers c.args.slots c.requires.entries.answers))
 
 pub returns-clause-columns : goal.returns-clause-columns
-returns-clause-columns c = (c.drop_place.auto.columns ∙ c.requires.columns.0, c.drop_place.ensures (lanes c.args.g.now) c.requires.columns.1)
+returns-clause-columns c =
+    let g = c.args.g.now in
+    let columns : List (Vec (List ℤ) Global) = c.drop_place.new.columns in
+    on_ok_weaker c.put_pieces.result
+    (λ keep. keep columns
+    (subst (λ (vs : List (List ℤ)). AreColumns g vs columns) (sym c.take_entry-f.ensures.vectors)
+    (c.drop_place.ensures g c.args.entries.now.vectors.items c.requires.place c.requires.columns)))
+    c.put_pieces.ensures.columns
