@@ -11,6 +11,8 @@ mod faults;
 mod generations;
 mod orders;
 mod runs;
+#[cfg(test)]
+mod tests;
 mod texts;
 mod verdicts;
 mod writing;

@@ -23,7 +23,7 @@ use Rattle.game_form.specs.Vector.{IsVector, lane, vector, arrived, bound, begin
 use Rattle.game_form.specs.Held.{after, InBound, KeepsFrom}
 use Rattle.strategy_play.specs.Answer.{answer_of, IsAnswer}
 use Rattle.strategy_play.specs.Lead.{place_above, next_at}
-use Rattle.strategy_play.specs.Letters.{letters_of, HasLetters}
+use Rattle.game_form.specs.Letters.{letters_of, HasLetters}
 use Rattle.strategy_play.specs.State.{IsState}
 use Rattle.strategy_play.specs.Strategy.{entry_of_state, IsStrategy}
 use Rattle.strategy_play.proofs.Faults.{lines_in, made_of, is_machine}

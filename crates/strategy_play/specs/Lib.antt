@@ -1,7 +1,6 @@
 pub mod Answer
 pub mod Example
 pub mod Lead
-pub mod Letters
 pub mod Line
 pub mod Restriction
 pub mod State

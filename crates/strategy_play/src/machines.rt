@@ -8,7 +8,7 @@ ghost use Rattle.antichain_list.specs.Antichain.{covered};
 ghost use Rattle.counter_vec.specs.Counters.{at_or_below};
 ghost use Rattle.cpre_step.specs.Refinement.{AreVectors, answers};
 ghost use Rattle.strategy_play.specs.Lead.{place_above};
-ghost use Rattle.strategy_play.specs.Letters.{HasLetters};
+ghost use Rattle.game_form.specs.Letters.{HasLetters};
 ghost use Rattle.strategy_play.specs.State.{IsState};
 ghost use Rattle.strategy_play.specs.Strategy.{IsStrategy};
 
