@@ -4,9 +4,8 @@ use cover_sets::covers;
 use dual_game::{automata, automaton, game, normal_of};
 use ltl_form::{Node, holds};
 use nba_trim::trim;
-use std::alloc::Global;
 use std::test::Fail;
-use tlsf_basic::{Spec, TextError, read_spec};
+use tlsf_basic::read_spec;
 use word_core::{Automaton, Cube, Edge, Lasso, Letter, Player, State};
 
 const RESPONSE: &[u8] =
@@ -92,10 +91,11 @@ fn classes_of_the_system(rt: HostRuntime) -> Result<(), Fail> {
     let g = game(alloc, &a, &spec.names, Player::System, 0)?;
     let classes = g.classes();
     assert_eq!(rt; classes.len(), 2);
-    assert_eq!(rt; classes[0].least, 0);
-    assert_eq!(rt; classes[0].options.as_slice(), [(0, 0), (2, 1)].as_slice());
-    assert_eq!(rt; classes[1].least, 1);
-    assert_eq!(rt; classes[1].options.as_slice(), [(1, 0), (2, 1)].as_slice());
+    let (first, second) = (&classes[0], &classes[1]);
+    assert_eq!(rt; first.least, 0);
+    assert_eq!(rt; first.options.as_slice(), [(0, 0), (2, 1)].as_slice());
+    assert_eq!(rt; second.least, 1);
+    assert_eq!(rt; second.options.as_slice(), [(1, 0), (2, 1)].as_slice());
     Ok(())
 }
 
