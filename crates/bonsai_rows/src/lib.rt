@@ -1,0 +1,5 @@
+//! Worked answers of the steps between a text and its game, whose values no contract states yet.
+#![tactic(auto)]
+
+#[cfg(test)]
+mod tests;
