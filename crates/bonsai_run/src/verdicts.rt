@@ -11,6 +11,7 @@ use crate::faults::Fault;
 use dual_game::{Bounds, automata, game};
 use game_core::{Solved, solve};
 use game_form::Game;
+use nba_quotient::quotient;
 use std::alloc::{AllocError, Global};
 use strategy_play::extract;
 use tlsf_basic::Spec;
@@ -24,7 +25,8 @@ pub enum Verdict {
     Unknown { bound: u32 },
 }
 
-/// The verdict on a specification of at most 40 signals.
+/// The verdict on a specification of at most 40 signals. The games are those of the automata's quotients, which
+/// have the same machines.
 pub fn decide(alloc: Global, spec: &Spec, bounds: Bounds) -> Result<Verdict, Fault>
     requires bounds { AreBounds bounds }
     requires last { bounds.last ≤ 10000 }

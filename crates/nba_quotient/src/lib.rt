@@ -1,0 +1,7 @@
+//! Automata whose states of equal futures are one.
+#![tactic(auto)]
+
+mod classes;
+mod quotients;
+
+pub use quotients::quotient;

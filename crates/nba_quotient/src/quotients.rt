@@ -1,0 +1,74 @@
+//! The automaton of the classes.
+
+ghost use Rattle.std.specs.Prelude.{◌≡◌, ◌<◌, ◌≤◌, length, All, IfOk, IfSome};
+ghost use Rattle.word_core.specs.Automaton.{IsEdge};
+ghost use Rattle.nba_quotient.specs.Classes.{AreClasses};
+
+use crate::classes::{Classes, classes_of};
+use std::alloc::{AllocError, Global};
+use word_core::{Automaton, Edge, State};
+
+/// The automaton of the coarsest classes of states with the same edges up to classes. Classes are in the order of
+/// their least states, and each has the edges of its least state, in order, each to the class of its end.
+///
+/// A vector of counters that a player holds as long as it can is equal on the lanes of one class. So with the classes
+/// for lanes the game has the same machine, in the same order of entries.
+pub fn quotient(alloc: Global, a: &Automaton) -> Result<Automaton, AllocError>
+    ensures { IfOk result (λ q. q.signals ≡ a.now.signals) }
+{
+    let classes = classes_of(alloc, a)?;
+    let states = class_states(alloc, a, &classes)?;
+    match Automaton::make(a.signals(), states, first_class(a, &classes)) {
+        Some(quotient) => Ok(quotient),
+        None => unreachable!(),
+    }
+}
+
+/// The class of the first state, if there is one.
+fn first_class(a: &Automaton, classes: &Classes) -> Option<u32>
+    requires { AreClasses (length a.now.states) classes.now }
+    ensures { IfSome result (λ c. c < length classes.now.leasts.items) }
+{
+    match a.init() {
+        Some(first) => Some(classes.of[first as usize]),
+        None => None,
+    }
+}
+
+/// For each class the edges of its least state.
+fn class_states(alloc: Global, a: &Automaton, classes: &Classes) -> Result<Vec<State>, AllocError>
+    requires { AreClasses (length a.now.states) classes.now }
+    ensures count { IfOk result (λ states. length states.items ≡ length classes.now.leasts.items) }
+    ensures edges { IfOk result (λ states. All (All (IsEdge a.now.signals (length classes.now.leasts.items))) states.items) }
+{
+    let mut states = Vec::with_capacity(alloc, classes.leasts.len())?;
+    for state in &classes.leasts {
+        let edges = class_edges(alloc, a, *state, classes)?;
+        states.push(State { edges })?;
+    }
+    Ok(states)
+}
+
+/// The edges of a state, each to the class of its end.
+fn class_edges(
+    alloc: Global,
+    a: &Automaton,
+    state: u32,
+    classes: &Classes,
+) -> Result<Vec<Edge>, AllocError>
+    requires state { state < length a.now.states }
+    requires classes { AreClasses (length a.now.states) classes.now }
+    ensures { IfOk result (λ edges. All (IsEdge a.now.signals (length classes.now.leasts.items)) edges.items) }
+{
+    let mut edges = Vec::new(alloc);
+    for edge in a.edges(state) {
+        let next = classes.of[edge.next as usize];
+        let cube = edge.cube;
+        edges.push(Edge {
+            cube,
+            next,
+            marked: edge.marked,
+        })?;
+    }
+    Ok(edges)
+}
