@@ -1,6 +1,7 @@
 -- The labels of trees whose lists of nodes go on.
-use Rattle.std.proofs.Common.{◌≡◌, ℕ, zero, suc, ◌+◌, ◌-◌, ◌/◌, ◌%◌, ◌<◌, ◌≤◌, ◌^◌, Bool, true, false, cond, eqb, List, [], ◌∷◌, ◌++◌, length, get_or, Option, Some, None, map, refl, sym, ap, ◌∙◌, subst, arith}
+use Rattle.std.proofs.Common.{◌≡◌, ℕ, zero, suc, ◌+◌, ◌-◌, ◌/◌, ◌%◌, ◌<◌, ◌≤◌, ◌^◌, ◌⊎◌, inl, inr, Bool, true, false, cond, eqb, List, [], ◌∷◌, ◌++◌, length, get_or, Option, Some, None, map, refl, sym, ap, ◌∙◌, subst, arith}
 use Rattle.std.specs.Prelude.{slice_get}
+use Rattle.std.proofs.lemmas.Bool.{cases_lt}
 use Rattle.std.proofs.lemmas.Option.{slice_get-get_or}
 use Rattle.std.proofs.lemmas.List.{get_or_append_left, get_or_push, length_push, length-append, length-map}
 use Rattle.word_core.specs.declared.branches.Branch.{Branch}
@@ -9,7 +10,7 @@ use Rattle.word_core.specs.Tree.{IsNodeAt, label_from, label_at, label_of, next_
 use Rattle.word_core.proofs.TreeLabels.{label_leaf, label_split, label_of-all}
 use Rattle.game_form.specs.Tree.{IsTreeOver}
 use Rattle.action_groups.proofs.Makes.{tree_over, placed_nodes}
-use Rattle.action_groups.specs.Part.{AreNodes}
+use Rattle.action_groups.specs.Part.{AreNodes, IsNodeOver}
 use Rattle.action_groups.specs.Labels.{KeepsLabels, IsSplitOf}
 use Rattle.action_groups.specs.Rank.{with_number}
 
@@ -78,11 +79,22 @@ got_pushed nodes now node e =
 pub leaf_pushed : (nodes now : List Branch) (label : ℕ) → now ≡ nodes ++ Leaf label ∷ [] → (bits : ℕ) → label_of now bits ≡ label
 leaf_pushed nodes now label e bits = label_leaf now (length now - 1) bits label (got_pushed nodes now (Leaf label) e)
 
-pub split_pushed : (width count : ℕ) (nodes now : List Branch) (signal low : ℕ) → width ≤ 64 → AreNodes width count nodes → AreNodes width count now → low < length nodes → now ≡ nodes ++ Split signal low (length nodes - 1) ∷ [] → (bits : ℕ) → label_of now bits ≡ side signal (label_at nodes low bits) (label_of nodes bits) bits
-split_pushed width count nodes now signal low le h k lt e bits =
+nodes_pushed : (width count : ℕ) (nodes now : List Branch) (node : Branch) → IsNodeOver width count (length nodes) node → AreNodes width count nodes → now ≡ nodes ++ node ∷ [] → AreNodes width count now
+nodes_pushed width count nodes now node new h e place d lt = go (cases_lt place (length nodes))
+  where
+    go : (place < length nodes) ⊎ (length nodes ≤ place) → IsNodeOver width count place (get_or now place d)
+    go (inl l) = subst (IsNodeOver width count place) (sym (ap (λ (ns : List Branch). get_or ns place d) e ∙ get_or_append_left nodes (node ∷ []) d place l)) (h place d l)
+    go (inr l) =
+        let long : length now ≡ length nodes + 1 = ap (λ (ns : List Branch). length ns) e ∙ length_push nodes node in
+        let at : length nodes ≡ place = omega arith in
+        subst (IsNodeOver width count place) (sym (ap (λ (ns : List Branch). get_or ns place d) e ∙ get_or_push nodes node d place at)) (subst (λ n. IsNodeOver width count n node) at new)
+
+pub split_pushed : (width count : ℕ) (nodes now : List Branch) (signal low : ℕ) → width ≤ 64 → AreNodes width count nodes → signal < width → low < length nodes → now ≡ nodes ++ Split signal low (length nodes - 1) ∷ [] → (bits : ℕ) → label_of now bits ≡ side signal (label_at nodes low bits) (label_of nodes bits) bits
+split_pushed width count nodes now signal low le h within lt e bits =
     let high : ℕ = length nodes - 1 in
     let some : 0 < length nodes = omega arith in
     let long : length now ≡ length nodes + 1 = ap (λ (l : List Branch). length l) e ∙ length_push nodes (Split signal low high) in
+    let k = nodes_pushed width count nodes now (Split signal low high) (within, lt, omega arith) h e in
     let t = tree_over width count now le k (omega arith) in
     let keeps = keeps_pushed width count nodes now (Split signal low high) le h e in
     label_split now t.tree (length now - 1) bits signal low high (got_pushed nodes now (Split signal low high) e)

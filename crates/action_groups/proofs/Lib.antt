@@ -1,5 +1,6 @@
 pub mod Chosen
 pub mod Grown
+pub mod Lists
 pub mod Makes
 pub mod Numbering
 pub mod Pairs

@@ -119,22 +119,26 @@ once_permuted pairs sorted kept moved h =
       all = All-permutation P sorted pairs back h.all;
     }
 
+zero_at : (count n : ℕ) → n < count → get_or (replicate {A = ℕ} count 0) n 0 ≡ 0
+zero_at count n lt = get_or-replicate {A = ℕ} count n 0 0 lt
+
+first_place : (count : ℕ) (p : ℕ × ℕ) (n : ℕ) → p.1 < count → HasNumber (p ∷ []) n → IsPlaceOf (p ∷ []) n (get_or (replicate count 0) n 0)
+first_place count p n lt w =
+    let below : w.0 < 1 = w.1 in
+    let first : w.0 ≡ 0 = omega arith in
+    let at : p.1 ≡ n = ap (λ j. (pair_at (p ∷ []) j).1) (sym first) ∙ w.2 in
+    let inside : n < count = omega arith in
+    let number : get_or (replicate {A = ℕ} count 0) n 0 ≡ 0 = zero_at count n inside in
+    (omega arith, ap (λ j. (pair_at (p ∷ []) j).1) number ∙ at)
+
 -- the first pair has the first number
 pub ranked_first : (pairs : List (ℕ × ℕ)) (count : ℕ) (seen : List Bool) (order : List (ℕ × ℕ)) → 0 < length pairs → (pair_at pairs 0).1 < count → seen ≡ set (replicate count false) (pair_at pairs 0).1 true → order ≡ pair_at pairs 0 ∷ [] → AreRanked pairs 1 seen order (replicate count 0)
 ranked_first pairs count seen order some lt es eo =
-    let p : ℕ × ℕ = pair_at pairs 0 in
-    let start : List Bool = replicate count false in
     let k = kept_first pairs count seen order some lt es eo in
-    let zero_there : get_or (replicate count 0) p.1 0 ≡ 0 = get_or-replicate {A = ℕ} count p.1 0 0 lt in
     record {
       known = k.each;
-      noted = λ n h. (
-          let w = subst (λ o. HasNumber o n) eo (k.noted n h) in
-          let first : w.0 ≡ 0 = omega (arith, w.1) in
-          let at : p.1 ≡ n = ap (λ j. (pair_at (p ∷ []) j).1) (sym first) ∙ w.2 in
-          let number : get_or (replicate count 0) n 0 ≡ 0 = ap (λ m. get_or (replicate count 0) m 0) (sym at) ∙ zero_there in
-          (subst (λ o. get_or (replicate count 0) n 0 < length o) (sym eo) (omega (arith, number)),
-          ap (λ (o : List (ℕ × ℕ)). (pair_at o (get_or (replicate count 0) n 0)).1) eo ∙ ap (λ j. (pair_at (p ∷ []) j).1) number ∙ at));
+      noted = λ n h. subst (λ o. IsPlaceOf o n (get_or (replicate count 0) n 0)) (sym eo)
+          (first_place count (pair_at pairs 0) n lt (subst (λ o. HasNumber o n) eo (k.noted n h)));
       passed = k.passed;
     }
 

@@ -175,3 +175,12 @@ split_options width place letters_low letters_high letters firsts_low firsts_hig
         (λ v. letter v false e)
         (ap (options_at lists) (t first ∙ side_by place (label_of firsts_low first) (label_of firsts_high first) first false e) ∙ keeps (label_of firsts_low first) (below first))
         (h first lt)
+
+-- the pairs of two parts
+pub pairs_joined : (start first all ls low hs high : List (ℕ × ℕ)) → start ≡ [] → ls ≡ low → hs ≡ high → first ≡ start ++ shifted 0 ls → all ≡ first ++ shifted 1 hs → all ≡ shifted 0 low ++ shifted 1 high
+pairs_joined start first all ls low hs high es el eh ef ea =
+    let one : first ≡ shifted 0 low = ef ∙ ap (λ (l : List (ℕ × ℕ)). l ++ shifted 0 ls) es ∙ ap (shifted 0) el in
+    ea ∙ ap (λ (l : List (ℕ × ℕ)). l ++ shifted 1 hs) one ∙ ap (λ (l : List (ℕ × ℕ)). shifted 0 low ++ shifted 1 l) eh
+
+pub pairs_alone : (start all ls rest : List (ℕ × ℕ)) → start ≡ [] → ls ≡ rest → all ≡ start ++ shifted 0 ls → all ≡ shifted 0 rest
+pairs_alone start all ls rest es el ea = ea ∙ ap (λ (l : List (ℕ × ℕ)). l ++ shifted 0 ls) es ∙ ap (shifted 0) el
