@@ -1,7 +1,6 @@
 -- Classes and options with their numbers are those of the letters.
-use Rattle.std.proofs.Common.{◌≡◌, ℕ, zero, suc, ◌+◌, ◌-◌, ◌*◌, ◌/◌, ◌<◌, ◌≤◌, ◌^◌, List, [], ◌∷◌, length, get_or, map, refl, sym, ap, ◌∙◌, subst, arith}
-use Rattle.std.specs.Prelude.{Vec}
-use Rattle.std.specs.List.{All, Contains}
+use Rattle.std.proofs.Common.{◌≡◌, ℕ, zero, suc, ◌+◌, ◌*◌, ◌/◌, ◌<◌, ◌^◌, List, [], ◌∷◌, length, get_or, map, refl, sym, ap, ◌∙◌, subst, arith}
+use Rattle.std.specs.Prelude.{ℤ, Option, Vec}
 use Rattle.std.specs.declared.alloc.Global.{Global}
 use Rattle.std.proofs.lemmas.List.{length-map}
 use Rattle.std.proofs.lemmas.List.Elements.{All-contains}
@@ -9,11 +8,13 @@ use Rattle.word_core.specs.declared.branches.Branch.{Branch}
 use Rattle.word_core.specs.Tree.{label_of}
 use Rattle.word_core.specs.declared.names.Kind.{Kind}
 use Rattle.word_core.specs.declared.names.Kind.TheVariants.{First, Second}
-use Rattle.game_form.specs.Game.{GameData, ClassData, option_at, no_class, first_width, other_width}
-use Rattle.game_form.specs.Letters.{HasLetters, letters_of}
+use Rattle.word_core.specs.declared.names.Player.{Player}
+use Rattle.word_core.specs.Machine.{own_width, other_width}
+use Rattle.game_form.specs.Game.{ClassData, option_at, no_class, of_first}
+use Rattle.game_form.specs.Letters.{HasLetters}
 use Rattle.action_groups.specs.declared.games.Parts.{Parts}
 use Rattle.action_groups.specs.Part.{ArePairs}
-use Rattle.action_groups.specs.Labels.{IsLabelled, HasNumber, pair_at}
+use Rattle.action_groups.specs.Labels.{IsLabelled, pair_at}
 use Rattle.action_groups.specs.Options.{options_at, HasOptions, AreOptionsOf}
 use Rattle.action_groups.specs.Rank.{IsNumbering}
 use Rattle.action_groups.specs.Listing.{with_numbers, class_from}
@@ -96,7 +97,27 @@ module _
         let w = place_of first in
         let number : ℕ = get_or numbers (label_of firsts first) 0 in
         let e : record { least = (pair_at order number).0; options = with_numbers labels (options_at lists (label_of firsts first)) } ≡ class_from lists labels (pair_at order number) =
-            ap (λ l. record { least = (pair_at order number).0; options = with_numbers labels (options_at lists l) }) (sym w.1) in
+        ap (λ l. record { least = (pair_at order number).0; options = with_numbers labels (options_at lists l) }) (sym w.1) in
         let there : class_from lists labels (pair_at order number) ≡ listed_at p (label_of p.firsts.items first) = listed number w.0 ∙ ap (listed_at p) (sym (first_of first)) in
         subst (Agrees first) (e ∙ there) (agrees first lt) i);
   }
+
+-- the game of the parts
+pub letters_hold : (player : Player) (kind : Kind) (i o : ℕ) (k : ℤ) (init : Option ℕ) (width : ℕ) (p : Parts) → width ≡ of_first kind (own_width player i o) (other_width player i o) → HasLetterParts width p → HasLetters (record {
+  player = player;
+  kind = kind;
+  inputs = i;
+  outputs = o;
+  k = k;
+  init = init;
+  actions = p.actions.items;
+  classes = p.classes.items;
+  letters = p.letters.items;
+  firsts = p.firsts.items;
+})
+letters_hold player First i o k init width p e h =
+    let w = subst (λ n. HasLetterParts n p) e h in
+    λ place other lt below. w.least place other lt
+letters_hold player Second i o k init width p e h =
+    let w = subst (λ n. HasLetterParts n p) e h in
+    λ other n lt below. w.options other n lt below

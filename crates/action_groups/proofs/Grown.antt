@@ -8,7 +8,6 @@ use Rattle.word_core.specs.declared.branches.Branch.{Branch}
 use Rattle.word_core.specs.declared.branches.Branch.TheVariants.{Leaf, Split}
 use Rattle.word_core.specs.Tree.{IsNodeAt, label_from, label_at, label_of, next_label, side}
 use Rattle.word_core.proofs.TreeLabels.{label_leaf, label_split, label_of-all}
-use Rattle.game_form.specs.Tree.{IsTreeOver}
 use Rattle.action_groups.proofs.Makes.{tree_over, placed_nodes}
 use Rattle.action_groups.specs.Part.{AreNodes, IsNodeOver}
 use Rattle.action_groups.specs.Labels.{KeepsLabels, IsSplitOf}

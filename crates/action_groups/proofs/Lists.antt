@@ -1,13 +1,15 @@
 -- Lists of options that are put into a set.
-use Rattle.std.proofs.Common.{◌≡◌, ℕ, zero, suc, ◌<◌, Bool, true, false, cond, eqb, ◌&&◌, List, [], ◌∷◌, ◌++◌, length, Option, Some, None, refl, sym, ap, ◌∙◌, subst, arith}
+use Rattle.std.proofs.Common.{◌≡◌, ℕ, zero, suc, ◌<◌, ◌+◌, Bool, true, false, cond, eqb, ◌&&◌, List, [], ◌∷◌, ◌++◌, length, get_or, map, take, Some, refl, sym, ap, ◌∙◌, subst, arith}
 use Rattle.std.specs.Prelude.{Vec, slice_get}
-use Rattle.std.specs.List.{list_any}
 use Rattle.std.specs.Bool.{Decides}
 use Rattle.std.specs.Cmp.Lexicographic.{pointwise}
 use Rattle.std.specs.declared.alloc.Global.{Global}
 use Rattle.std.proofs.lemmas.Bool.{and_parts}
 use Rattle.std.proofs.lemmas.Bool.Decides.{Decides-eqb}
+use Rattle.std.proofs.lemmas.List.{take_more, map-append}
 use Rattle.std.proofs.lemmas.Slice.Eq.{slice_eq-Decides}
+use Rattle.game_form.specs.Game.{ClassData}
+use Rattle.action_groups.specs.Listing.{class_from}
 use Rattle.action_groups.specs.Options.{options_at, KeepsLists}
 use Rattle.action_groups.proofs.Splits.{lists_self, lists_append}
 
@@ -35,3 +37,19 @@ stored_options lists c x options e t = got_options lists c x e ∙ sym ((slice_e
 pub lists_inserted : (lists now : List (Vec (ℕ × ℕ) Global)) (new : Vec (ℕ × ℕ) Global) (b : Bool) → now ≡ cond b lists (lists ++ new ∷ []) → KeepsLists lists now
 lists_inserted lists now new true e = subst (KeepsLists lists) (sym e) (lists_self lists)
 lists_inserted lists now new false e = subst (KeepsLists lists) (sym e) (lists_append lists (new ∷ []))
+
+pub read_options : (lists : List (Vec (ℕ × ℕ) Global)) (c : ℕ) (x : Vec (ℕ × ℕ) Global) → c < length lists → x ≡ get_or lists c x → options_at lists c ≡ x.items
+read_options [] c x lt e = absurd (omega arith)
+read_options (o ∷ lists) zero x lt e = ap (λ (v : Vec (ℕ × ℕ) Global). v.items) (sym e)
+read_options (o ∷ lists) (suc c) x lt e = read_options lists c x (omega arith) e
+
+-- one more class
+pub class_more : (lists : List (Vec (ℕ × ℕ) Global)) (numbers : List ℕ) (order : List (ℕ × ℕ)) (i : ℕ) (out now : List ClassData) (new : ClassData) → i < length order → out ≡ map (class_from lists numbers) (take i order) → now ≡ out ++ new ∷ [] → new ≡ class_from lists numbers (get_or order i (0, 0)) → now ≡ map (class_from lists numbers) (take (i + 1) order)
+class_more lists numbers order i out now new lt eo en ec =
+    let f : ℕ × ℕ → ClassData = class_from lists numbers in
+    let p : ℕ × ℕ = get_or order i (0, 0) in
+    let more : take (i + 1) order ≡ take i order ++ p ∷ [] = take_more order i (0, 0) lt in
+    en
+    ∙ ap (λ (l : List ClassData). l ++ new ∷ []) eo
+    ∙ ap (λ (x : ClassData). map f (take i order) ++ x ∷ []) ec
+    ∙ sym (ap (λ (l : List (ℕ × ℕ)). map f l) more ∙ map-append f (take i order) (p ∷ []))

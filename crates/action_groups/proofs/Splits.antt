@@ -1,9 +1,9 @@
 -- Trees and their pairs, split by a signal.
-use Rattle.std.proofs.Common.{◌≡◌, ℕ, zero, suc, ◌+◌, ◌-◌, ◌*◌, ◌/◌, ◌%◌, ◌<◌, ◌≤◌, ◌^◌, Bool, true, false, cond, eqb, List, [], ◌∷◌, ◌++◌, length, get_or, map, refl, sym, ap, ◌∙◌, subst, arith}
+use Rattle.std.proofs.Common.{◌≡◌, ℕ, zero, suc, ◌+◌, ◌*◌, ◌/◌, ◌%◌, ◌<◌, ◌≤◌, ◌^◌, Bool, true, false, cond, eqb, List, [], ◌∷◌, ◌++◌, length, refl, sym, ap, ◌∙◌, subst, arith}
 use Rattle.std.specs.Prelude.{Vec}
 use Rattle.std.specs.List.{All, Contains}
 use Rattle.std.specs.declared.alloc.Global.{Global}
-use Rattle.std.proofs.lemmas.List.{get_or_append_left, get_or-append-add, length-append, length-map, get_or_default}
+use Rattle.std.proofs.lemmas.List.{get_or_append_left, get_or-append-add, length-append, length-map}
 use Rattle.std.proofs.lemmas.List.Elements.{All-append, All-map, All-weaker, All-nil, All-cons}
 use Rattle.std.proofs.lemmas.Nat.{shr-shr, div-mul-add}
 use Rattle.std.proofs.lemmas.Nat.Bits.{bit_at_cat_low}
@@ -76,11 +76,11 @@ split_labelled place next low high now ls hs pairs e s is h k =
     let F : ℕ × ℕ → Type 0 = λ p. P (f p) in
     let G : ℕ × ℕ → Type 0 = λ p. P (g p) in
     let low_step : (p : ℕ × ℕ) → L p → F p = λ p q bits v. (
-        let half = half_at bits place p.0 0 (omega arith) v in
-        s bits ∙ side_by place (label_of low bits) (label_of high bits) bits false (bit_false _ half.1) ∙ q bits (ap (λ n. bits / 2 ^ n) e ∙ half.0)) in
+    let half = half_at bits place p.0 0 (omega arith) v in
+    s bits ∙ side_by place (label_of low bits) (label_of high bits) bits false (bit_false _ half.1) ∙ q bits (ap (λ n. bits / 2 ^ n) e ∙ half.0)) in
     let high_step : (p : ℕ × ℕ) → H p → G p = λ p q bits v. (
-        let half = half_at bits place p.0 1 (omega arith) v in
-        s bits ∙ side_by place (label_of low bits) (label_of high bits) bits true (bit_true _ half.1) ∙ q bits (ap (λ n. bits / 2 ^ n) e ∙ half.0)) in
+    let half = half_at bits place p.0 1 (omega arith) v in
+    s bits ∙ side_by place (label_of low bits) (label_of high bits) bits true (bit_true _ half.1) ∙ q bits (ap (λ n. bits / 2 ^ n) e ∙ half.0)) in
     record {
       each = subst (All P) (sym is)
           (All-append P (shifted 0 ls) (shifted 1 hs)

@@ -22,8 +22,7 @@ loop-i-preserved c =
           let kept : c.if-not-index.kept.items ≡ c.loop-i.kept.items ++ p ∷ [] = ap (λ (v : Vec (ℕ × ℕ) Global). v.items) w.kept-is ∙ w.in_ok-push-2.ensures.items in
           let seen : c.if-not-index.seen.items ≡ set c.loop-i.seen.items p.1 true = ap (λ (v : Vec Bool Global). v.items) w.seen-is in
           let at : p.1 < length c.loop-i.seen.items = omega (arith, ranged.1, c.loop-i.invariant.2) in
-          let long : length c.if-not-index.kept.items ≡ length c.loop-i.kept.items + 1 = ap (λ (l : List (ℕ × ℕ)). length l) kept ∙ length_push c.loop-i.kept.items p in
-          (
+          let long : length c.if-not-index.kept.items ≡ length c.loop-i.kept.items + 1 = ap (λ (l : List (ℕ × ℕ)). length l) kept ∙ length_push c.loop-i.kept.items p in (
             subst (All P) (sym kept) (All-push P c.loop-i.kept.items p c.loop-i.invariant.0 ranged),
             omega (arith, long),
             ap (λ (l : List Bool). length l) seen ∙ length-set c.loop-i.seen.items p.1 true ∙ c.loop-i.invariant.2,
@@ -32,7 +31,7 @@ loop-i-preserved c =
       | else-not-index w ↦ (
           let here : get_or c.loop-i.seen.items p.1 false ≡ true = grind (arith, common_steps) in
           let Q : Vec (ℕ × ℕ) Global → Vec Bool Global → Type 0 = λ k s.
-              All P k.items × (0 < length k.items) × (length s.items ≡ c.args.count) × AreKept pairs (i + 1) s.items k.items in
+          All P k.items × (0 < length k.items) × (length s.items ≡ c.args.count) × AreKept pairs (i + 1) s.items k.items in
           subst (λ k. Q k c.if-not-index.seen) (sym w.kept-is) (subst (Q c.loop-i.kept) (sym w.seen-is) (
             c.loop-i.invariant.0,
             c.loop-i.invariant.1,

@@ -1,6 +1,5 @@
-use Rattle.std.proofs.Common.{◌≡◌, ◌<◌, ◌+◌, ◌-◌, ◌++◌, length, refl, ap, arith}
+use Rattle.std.proofs.Common.{◌≡◌, ◌<◌, ◌+◌, ◌-◌, length, refl, ap, arith}
 use Rattle.std.proofs.lemmas.Grind.{common_steps}
-use Rattle.action_groups.specs.Labels.{shifted}
 use Rattle.action_groups.proofs.Grown.{split_of}
 use Rattle.action_groups.proofs.Splits.{rest_labelled, split_labelled, pairs_joined, pairs_alone}
 use Rattle.action_groups.proofs.groups.+split_rest.Goals as goal
@@ -20,5 +19,5 @@ returns-clause-labelled t c =
     let size : c.len-at.result ≡ length low = grind (arith, common_steps) in
     let split = split_of c.args.place (c.len-at.result - 1) low high now some (ap (λ n. n - 1) size) c.in_ok-high.ensures.kept c.in_ok-push_split.ensures.split in
     let pairs = pairs_joined c.new-pairs.result.items c.add_part-2.new.pairs.items c.add_part-3.new.pairs.items c.deref-4.result.now c.in_ok-low.low.items c.deref-5.result.now c.in_ok-high.high.items
-        c.new-pairs.ensures.items c.deref-4.ensures.value c.deref-5.ensures.value c.in_ok-add_part-2.ensures.value c.in_ok-add_part-3.ensures.value in
+    c.new-pairs.ensures.items c.deref-4.ensures.value c.deref-5.ensures.value c.in_ok-add_part-2.ensures.value c.in_ok-add_part-3.ensures.value in
     split_labelled c.args.place (c.args.place + 1) low high now c.in_ok-low.low.items c.in_ok-high.high.items c.add_part-3.new.pairs.items refl split pairs c.in_ok-low.ensures.labelled c.in_ok-high.ensures.labelled

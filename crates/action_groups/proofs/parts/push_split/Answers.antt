@@ -12,5 +12,5 @@ pub returns-clause-split : goal.returns-clause-split
 returns-clause-split c =
     let size : c.len.result ≡ length c.args.nodes.now.items = grind (arith, common_steps) in
     let pushed : c.push.new.self.items ≡ c.args.nodes.now.items ++ Split c.args.signal c.args.low (length c.args.nodes.now.items - 1) ∷ [] =
-        c.in_ok-push.ensures.items ∙ ap (λ n. c.args.nodes.now.items ++ Split c.args.signal c.args.low (n - 1) ∷ []) size in
+    c.in_ok-push.ensures.items ∙ ap (λ n. c.args.nodes.now.items ++ Split c.args.signal c.args.low (n - 1) ∷ []) size in
     split_pushed c.args.width c.args.count c.args.nodes.now.items c.push.new.self.items c.args.signal c.args.low c.requires.narrow c.requires.nodes c.requires.signal c.requires.low pushed

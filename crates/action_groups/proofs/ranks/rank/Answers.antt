@@ -1,5 +1,4 @@
-use Rattle.std.proofs.Common.{◌≡◌, ℕ, ◌<◌, ◌^◌, List, subst}
-use Rattle.std.specs.List.Sorted.{IsPermutation}
+use Rattle.std.proofs.Common.{ℕ, ◌<◌, ◌^◌, subst}
 use Rattle.std.proofs.lemmas.Result.{IfOk-weaker}
 use Rattle.std.proofs.lemmas.List.Sorted.{All-permutation}
 use Rattle.action_groups.specs.declared.ranks.Ranked.{Ranked}
@@ -17,6 +16,6 @@ returns-clause-numbering c =
     let P : Ranked → Type 0 = λ r. IsNumbering c.deref.result.now r.order.items r.numbers.items in
     let Q : Ranked → Type 0 = λ r. IsNumbering c.args.pairs.items r.order.items r.numbers.items in
     let step : (r : Ranked) → P r → Q r = λ r h.
-        numbering_permuted c.args.pairs.items c.sort.new.self.items r.order.items r.numbers.items c.sort.ensures.permutation
-        (subst (λ ps. IsNumbering ps r.order.items r.numbers.items) c.deref.ensures.value h) in
+    numbering_permuted c.args.pairs.items c.sort.new.self.items r.order.items r.numbers.items c.sort.ensures.permutation
+    (subst (λ ps. IsNumbering ps r.order.items r.numbers.items) c.deref.ensures.value h) in
     IfOk-weaker _ P Q step c.rank_sorted.ensures.numbering

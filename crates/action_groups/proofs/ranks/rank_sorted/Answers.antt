@@ -6,7 +6,7 @@ use Rattle.std.proofs.lemmas.List.{length-set, length_push}
 use Rattle.std.proofs.lemmas.List.Elements.{All-push, All-set, All-weaker}
 use Rattle.std.proofs.lemmas.Grind.{common_steps}
 use Rattle.action_groups.specs.Labels.{pair_at}
-use Rattle.action_groups.proofs.Numbering.{AreRanked, ranked_more, ranked_same, ranked_all}
+use Rattle.action_groups.proofs.Numbering.{AreRanked, ranked_more, ranked_same}
 use Rattle.action_groups.proofs.ranks.rank_sorted.Goals as goal
 use Rattle.action_groups.proofs.ranks.rank_sorted.Goals.{then-not-index+in_ok-push-2, else-not-index}
 
@@ -24,15 +24,14 @@ loop-i-preserved c =
           let seen : c.if-not-index.seen.items ≡ set c.loop-i.seen.items p.1 true = ap (λ (v : Vec Bool Global). v.items) w.seen-is in
           let count : w.len.result ≡ size = grind (arith, common_steps) in
           let numbers : c.if-not-index.numbers.items ≡ set c.loop-i.numbers.items p.1 size = (
-              ap (λ (v : Vec ℕ Global). v.items) w.numbers-is ∙ ap (λ n. set c.loop-i.numbers.items p.1 n) count) in
+          ap (λ (v : Vec ℕ Global). v.items) w.numbers-is ∙ ap (λ n. set c.loop-i.numbers.items p.1 n) count) in
           let at : p.1 < length c.loop-i.seen.items = omega (arith, ranged.1, c.loop-i.invariant.3) in
           let inside : p.1 < length c.loop-i.numbers.items = omega (arith, ranged.1, c.loop-i.invariant.2) in
           let long : length c.if-not-index.order.items ≡ size + 1 = ap (λ (l : List (ℕ × ℕ)). length l) order ∙ length_push c.loop-i.order.items p in
           let Below : ℕ → Type 0 = λ n. n < length c.if-not-index.order.items in
           let Before : ℕ → Type 0 = λ n. n < size in
           let top : Below size = omega (arith, long) in
-          let wider : (n : ℕ) → Before n → Below n = λ n h. omega (arith, long, h) in
-          (
+          let wider : (n : ℕ) → Before n → Below n = λ n h. omega (arith, long, h) in (
             subst (All P) (sym order) (All-push P c.loop-i.order.items p c.loop-i.invariant.0 ranged),
             omega (arith, long),
             ap (λ (l : List ℕ). length l) numbers ∙ length-set c.loop-i.numbers.items p.1 size ∙ c.loop-i.invariant.2,
@@ -43,7 +42,7 @@ loop-i-preserved c =
       | else-not-index w ↦ (
           let here : get_or c.loop-i.seen.items p.1 false ≡ true = grind (arith, common_steps) in
           let Q : Vec (ℕ × ℕ) Global → Vec ℕ Global → Vec Bool Global → Type 0 = λ o n s.
-              All P o.items × (0 < length o.items) × (length n.items ≡ c.args.count) × (length s.items ≡ c.args.count) × All (λ m. m < length o.items) n.items × AreRanked pairs (i + 1) s.items o.items n.items in
+          All P o.items × (0 < length o.items) × (length n.items ≡ c.args.count) × (length s.items ≡ c.args.count) × All (λ m. m < length o.items) n.items × AreRanked pairs (i + 1) s.items o.items n.items in
           subst (λ o. Q o c.if-not-index.numbers c.if-not-index.seen) (sym w.order-is) (subst (λ n. Q c.loop-i.order n c.if-not-index.seen) (sym w.numbers-is) (subst (Q c.loop-i.order c.loop-i.numbers) (sym w.seen-is) (
             c.loop-i.invariant.0,
             c.loop-i.invariant.1,
