@@ -42,11 +42,14 @@ at_places P width count nodes place h some none = go (slice_get_cases nodes plac
         subst P (sym w.2) (some w.0 (subst Q w.3 (h place w.0 w.1)))
     go (inr w) = subst P (sym w.1) none
 
+pub placed_nodes : (width count : ℕ) (nodes : List Branch) → width ≤ 64 → AreNodes width count nodes → (place : ℕ) → IsNodeAt place (slice_get nodes place)
+placed_nodes width count nodes le h place = at_places (IsNodeAt place) width count nodes place h (λ x k. node_placed width count place x le k) tt
+
 pub tree_over : (width count : ℕ) (nodes : List Branch) → width ≤ 64 → AreNodes width count nodes → 0 < length nodes → IsTreeOver width count nodes
 tree_over width count nodes le h some = record {
   tree = record {
     some = some;
-    placed = λ place. at_places (IsNodeAt place) width count nodes place h (λ x k. node_placed width count place x le k) tt;
+    placed = placed_nodes width count nodes le h;
   };
   signals = λ place. at_places (TestsBelow width) width count nodes place h (node_tests width count place) tt;
   labels = λ place. at_places (LabelHas (λ l. l < count)) width count nodes place h (node_label width count place) tt;

@@ -1,5 +1,7 @@
 pub mod First
+pub mod Labels
 pub mod Listing
+pub mod Options
 pub mod Part
 pub mod Parts
 pub mod Rank

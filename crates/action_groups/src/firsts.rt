@@ -2,6 +2,9 @@
 
 ghost use Rattle.std.specs.Prelude.{◌≡◌, ◌<◌, ◌≤◌, ◌+◌, ◌-◌, ◌^◌, ℕ, length, vec_len, IfOk, OnOk};
 ghost use Rattle.std.specs.List.{All};
+ghost use Rattle.word_core.specs.Tree.{label_of};
+ghost use Rattle.action_groups.specs.Labels.{KeepsLabels, IsLabelled};
+ghost use Rattle.action_groups.specs.Options.{options_at, KeepsLists, IsOnce, HasOptions};
 ghost use Rattle.action_groups.specs.Part.{AreNodes, ArePairs};
 ghost use Rattle.action_groups.specs.First.{AreOptions};
 ghost use Rattle.action_groups.specs.Way.{IsWay, IsStep};
@@ -34,6 +37,7 @@ fn first_of_each(
     requires some { 0 < length pairs.now }
     ensures pairs { IfOk result (λ v. ArePairs width count v.items) }
     ensures some { IfOk result (λ v. 0 < length v.items) }
+    ensures once { IfOk result (λ v. IsOnce pairs.now v.items) }
 {
     let mut seen = vec![in alloc; false; count]?;
     let mut kept = Vec::new(alloc);
@@ -80,6 +84,7 @@ fn put_options(
     count: usize,
     firsts: &mut Firsts,
 ) -> Result<u64, AllocError>
+    requires narrow { width ≤ 64 }
     requires pairs { ArePairs second count pairs.items }
     requires some { 0 < length pairs.items }
     requires nodes { AreNodes width (length firsts.old.options.keys) firsts.old.nodes.items }
@@ -92,6 +97,10 @@ fn put_options(
     ensures grows { OnOk result (length firsts.old.nodes.items < length firsts.new.nodes.items) }
     ensures some { OnOk result (0 < length firsts.new.met.items) }
     ensures label { IfOk result (λ l. l < length firsts.new.options.keys) }
+    ensures kept { OnOk result (KeepsLabels firsts.old.nodes.items firsts.new.nodes.items) }
+    ensures lists { OnOk result (KeepsLists firsts.old.options.keys firsts.new.options.keys) }
+    ensures leaf { IfOk result (λ l. (bits : ℕ) → label_of firsts.new.nodes.items bits ≡ l) }
+    ensures once { IfOk result (λ l. IsOnce pairs.items (options_at firsts.new.options.keys l)) }
 {
     pairs.sort()?;
     let options = first_of_each(alloc, &pairs, second, count)?;
@@ -136,6 +145,11 @@ pub fn split_first(
     ensures met_some { OnOk result (0 < length firsts.new.met.items) }
     ensures pairs { IfOk result (λ v. ArePairs (width - place) (length firsts.new.options.keys) v.items) }
     ensures some { IfOk result (λ v. 0 < length v.items) }
+    ensures letters_kept { OnOk result (KeepsLabels letters.old.nodes.items letters.new.nodes.items) }
+    ensures kept { OnOk result (KeepsLabels firsts.old.nodes.items firsts.new.nodes.items) }
+    ensures lists { OnOk result (KeepsLists firsts.old.options.keys firsts.new.options.keys) }
+    ensures chosen { OnOk result (HasOptions width letters.new.nodes.items firsts.new.nodes.items firsts.new.options.keys) }
+    ensures labelled { IfOk result (λ v. IsLabelled place firsts.new.nodes.items v.items) }
 {
     let whole = order.width();
     if place >= width {

@@ -7,8 +7,12 @@ ghost use Rattle.action_groups.specs.Part.{AreNodes, ArePairs};
 ghost use Rattle.action_groups.specs.Rank.{IsRanked};
 ghost use Rattle.action_groups.specs.Row.{AreRows};
 ghost use Rattle.action_groups.specs.Way.{IsStep};
-ghost use Rattle.action_groups.specs.Listing.{IsListedClass};
-ghost use Rattle.action_groups.specs.Parts.{AreParts};
+ghost use Rattle.std.specs.Prelude.{map};
+ghost use Rattle.action_groups.specs.Labels.{IsLabelled};
+ghost use Rattle.action_groups.specs.Listing.{IsListedClass, class_from, with_numbers};
+ghost use Rattle.action_groups.specs.Options.{HasOptions};
+ghost use Rattle.action_groups.specs.Parts.{AreParts, HasLetterParts};
+ghost use Rattle.game_form.specs.Letters.{HasLetters};
 ghost use Rattle.game_form.specs.Game.{of_first, lanes};
 ghost use Rattle.word_core.specs.Machine.{own_width, other_width};
 
@@ -70,6 +74,7 @@ pub fn make_game(
     ensures k { IfOk result (λ g. g.k ≡ k) }
     ensures init { IfOk result (λ g. g.init ≡ a.now.init) }
     ensures lanes { IfOk result (λ g. lanes g ≡ length a.now.states) }
+    ensures letters { IfOk result HasLetters }
 {
     let width = first_width(player, kind, inputs, outputs);
     let order = Order {
@@ -104,7 +109,8 @@ pub struct Parts {
 /// The actions and classes of the letters, and their trees; `width` signals are the first side's.
 fn parts_of(alloc: Global, a: &Automaton, order: Order, width: u32) -> Result<Parts, AllocError>
     requires { width ≤ order.inputs + order.outputs }
-    ensures { IfOk result (AreParts (length a.now.states) (order.inputs + order.outputs) width) }
+    ensures parts { IfOk result (AreParts (length a.now.states) (order.inputs + order.outputs) width) }
+    ensures letters { IfOk result (HasLetterParts width) }
 {
     let count = a.states().len();
     let mut letters = Letters {
@@ -153,7 +159,10 @@ fn numbered(
     requires some_met { 0 < length firsts.met.items }
     requires pairs { ArePairs width (length firsts.options.keys) pairs.items }
     requires some { 0 < length pairs.items }
-    ensures { IfOk result (AreParts count (order.inputs + order.outputs) width) }
+    requires labelled { IsLabelled 0 firsts.nodes.items pairs.items }
+    requires chosen { HasOptions width letters.nodes.items firsts.nodes.items firsts.options.keys }
+    ensures parts { IfOk result (AreParts count (order.inputs + order.outputs) width) }
+    ensures letters { IfOk result (HasLetterParts width) }
 {
     let Firsts {
         nodes,
@@ -218,6 +227,7 @@ fn options_of(
     requires numbers { All (λ n. n < count) numbers.now }
     ensures len { IfOk result (λ v. length v.items ≡ length options.now) }
     ensures options { IfOk result (λ v. All (λ o. (o.0 < count) × (o.1 < 2 ^ second)) v.items) }
+    ensures value { IfOk result (λ v. v.items ≡ with_numbers numbers.now options.now) }
 {
     let mut out = Vec::with_capacity(alloc, options.len())?;
     for (value, label) in options {
@@ -241,6 +251,7 @@ fn class_list(
     requires options { AreOptions second count lists.now.keys }
     ensures len { IfOk result (λ v. length v.items ≡ length classes.now.order.items) }
     ensures classes { IfOk result (λ v. All (IsListedClass width second (length labels.now.order.items)) v.items) }
+    ensures value { IfOk result (λ v. v.items ≡ map (class_from lists.now.keys labels.now.numbers.items) classes.now.order.items) }
 {
     let mut out = Vec::with_capacity(alloc, classes.order.len())?;
     for (least, label) in &classes.order {

@@ -2,6 +2,8 @@
 
 ghost use Rattle.std.specs.Prelude.{◌≡◌, ◌<◌, ◌≤◌, ◌+◌, ◌-◌, ◌^◌, ℕ, length, vec_len, IfOk, OnOk};
 ghost use Rattle.std.specs.List.{All};
+ghost use Rattle.word_core.specs.Tree.{label_of};
+ghost use Rattle.action_groups.specs.Labels.{KeepsLabels, IsLabelled};
 ghost use Rattle.action_groups.specs.Part.{AreNodes, ArePairs};
 ghost use Rattle.action_groups.specs.Way.{IsWay, IsStep};
 
@@ -30,6 +32,7 @@ fn put_effect(
     width: u32,
     letters: &mut Letters,
 ) -> Result<u64, AllocError>
+    requires narrow { width ≤ 64 }
     requires ways { All (IsWay count) ways.now }
     requires nodes { AreNodes width (length letters.old.effects.keys) letters.old.nodes.items }
     requires effects { All (λ e. All (IsStep count) e.items) letters.old.effects.keys }
@@ -38,6 +41,8 @@ fn put_effect(
     ensures more { OnOk result (length letters.old.effects.keys ≤ length letters.new.effects.keys) }
     ensures grows { OnOk result (length letters.old.nodes.items < length letters.new.nodes.items) }
     ensures label { IfOk result (λ l. l < length letters.new.effects.keys) }
+    ensures kept { OnOk result (KeepsLabels letters.old.nodes.items letters.new.nodes.items) }
+    ensures leaf { IfOk result (λ l. (bits : ℕ) → label_of letters.new.nodes.items bits ≡ l) }
 {
     let (label, _) = letters.effects.insert_full(effect(alloc, ways, count)?)?;
     push_leaf(
@@ -70,6 +75,8 @@ pub fn split_rest(
     ensures grows { OnOk result (length letters.old.nodes.items < length letters.new.nodes.items) }
     ensures pairs { IfOk result (λ v. ArePairs (order.inputs + order.outputs - place) (length letters.new.effects.keys) v.items) }
     ensures some { IfOk result (λ v. 0 < length v.items) }
+    ensures kept { OnOk result (KeepsLabels letters.old.nodes.items letters.new.nodes.items) }
+    ensures labelled { IfOk result (λ v. IsLabelled place letters.new.nodes.items v.items) }
 {
     let width = order.width();
     if place >= width {

@@ -2,6 +2,9 @@
 
 ghost use Rattle.std.specs.Prelude.{◌≡◌, ◌<◌, ◌≤◌, ◌+◌, ◌*◌, ◌^◌, ℕ, length, vec_len, IfOk, OnOk};
 ghost use Rattle.std.specs.List.{All};
+ghost use Rattle.std.specs.Prelude.{◌++◌};
+ghost use Rattle.word_core.specs.Tree.{label_at, label_of, side};
+ghost use Rattle.action_groups.specs.Labels.{KeepsLabels, shifted};
 ghost use Rattle.action_groups.specs.Part.{AreNodes, ArePairs};
 
 use std::alloc::{AllocError, Global};
@@ -14,9 +17,12 @@ pub fn push_leaf(
     width: u32,
     count: usize,
 ) -> Result<(), AllocError>
+    requires narrow { width ≤ 64 }
     requires label { label < count }
     requires nodes { AreNodes width count nodes.old.items }
     ensures nodes { AreNodes width count nodes.new.items }
+    ensures kept { OnOk result (KeepsLabels nodes.old.items nodes.new.items) }
+    ensures leaf { OnOk result ((bits : ℕ) → label_of nodes.new.items bits ≡ label) }
     ensures grows { OnOk result (length nodes.new.items ≡ length nodes.old.items + 1) }
 {
     nodes.push(Branch::Leaf(label))?;
@@ -31,10 +37,13 @@ pub fn push_split(
     width: u32,
     count: usize,
 ) -> Result<(), AllocError>
+    requires narrow { width ≤ 64 }
     requires signal { signal < width }
     requires low { low < length nodes.old.items }
     requires nodes { AreNodes width count nodes.old.items }
     ensures nodes { AreNodes width count nodes.new.items }
+    ensures kept { OnOk result (KeepsLabels nodes.old.items nodes.new.items) }
+    ensures split { OnOk result ((bits : ℕ) → label_of nodes.new.items bits ≡ side signal (label_at nodes.old.items low bits) (label_of nodes.old.items bits) bits) }
     ensures grows { OnOk result (length nodes.new.items ≡ length nodes.old.items + 1) }
 {
     let high = nodes.len() as u64 - 1;
@@ -61,6 +70,7 @@ pub fn add_part(
     requires pairs { ArePairs (rest + 1) count pairs.old.items }
     ensures pairs { ArePairs (rest + 1) count pairs.new.items }
     ensures grows { OnOk result (length pairs.new.items ≡ length pairs.old.items + length part.now) }
+    ensures value { OnOk result (pairs.new.items ≡ pairs.old.items ++ shifted bit part.now) }
 {
     for (value, number) in part {
         pairs.push((2 * *value + bit, *number))?;

@@ -3,7 +3,9 @@
 ghost use Rattle.std.specs.Prelude.{◌≡◌, ◌<◌, ◌≤◌, ◌+◌, ◌^◌, ℕ, length, vec_len, IfOk, OnOk};
 ghost use Rattle.std.specs.List.{All};
 ghost use Rattle.action_groups.specs.Part.{AreNodes, ArePairs};
-ghost use Rattle.action_groups.specs.Rank.{IsRanked, LabelIn, with_number};
+ghost use Rattle.std.specs.Prelude.{slice_index};
+ghost use Rattle.word_core.specs.Tree.{label_of};
+ghost use Rattle.action_groups.specs.Rank.{IsRanked, IsNumbering, LabelIn, with_number};
 
 use std::alloc::{AllocError, Global};
 use word_core::Branch;
@@ -24,7 +26,8 @@ pub fn rank(
 ) -> Result<Ranked, AllocError>
     requires pairs { ArePairs width count pairs.items }
     requires some { 0 < length pairs.items }
-    ensures { IfOk result (IsRanked width count) }
+    ensures ranked { IfOk result (IsRanked width count) }
+    ensures numbering { IfOk result (λ r. IsNumbering pairs.items r.order.items r.numbers.items) }
 {
     pairs.sort()?;
     rank_sorted(alloc, &pairs, width, count)
@@ -39,7 +42,8 @@ fn rank_sorted(
 ) -> Result<Ranked, AllocError>
     requires pairs { ArePairs width count pairs.now }
     requires some { 0 < length pairs.now }
-    ensures { IfOk result (IsRanked width count) }
+    ensures ranked { IfOk result (IsRanked width count) }
+    ensures numbering { IfOk result (λ r. IsNumbering pairs.now r.order.items r.numbers.items) }
 {
     let mut numbers = vec![in alloc; 0; count]?;
     let mut seen = vec![in alloc; false; count]?;
@@ -76,10 +80,13 @@ pub fn relabelled(
     width: u32,
     count: usize,
 ) -> Result<Vec<Branch>, AllocError>
+    requires narrow { width ≤ 64 }
     requires nodes { AreNodes width (length numbers.now) nodes.now }
+    requires some { 0 < length nodes.now }
     requires numbers { All (λ n. n < count) numbers.now }
     ensures nodes { IfOk result (λ v. AreNodes width count v.items) }
     ensures len { IfOk result (λ v. length v.items ≡ length nodes.now) }
+    ensures labels { IfOk result (λ v. (bits : ℕ) → label_of v.items bits ≡ slice_index numbers.now (label_of nodes.now bits)) }
 {
     let mut out = Vec::with_capacity(alloc, nodes.len())?;
     for node in nodes {
