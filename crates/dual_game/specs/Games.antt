@@ -9,6 +9,7 @@ use Rattle.word_core.specs.declared.names.Target.TheVariants.{Mealy, Moore}
 use Rattle.word_core.specs.declared.names.Names.{Names}
 use Rattle.word_core.specs.Automaton.{AutomatonData}
 use Rattle.game_form.specs.Game.{GameData, lanes}
+use Rattle.game_form.specs.Letters.{HasLetters}
 
 -- under Mealy the system sees the inputs of a step before it chooses, under Moore the environment sees the outputs
 abbrev pub kind_of : Player → Target → Kind
@@ -17,7 +18,7 @@ kind_of System Moore = First
 kind_of Environment Mealy = First
 kind_of Environment Moore = Second
 
--- the game of an automaton over these names for a player, with a bound
+-- the game of an automaton over these names for a player, with a bound; its classes and options are those of its letters
 pub record IsGameOf (a : AutomatonData) (names : Names) (who : Player) (k : ℕ) (g : GameData) : Type 0 where
   pub player : g.player ≡ who
   pub kind : g.kind ≡ kind_of who names.target
@@ -26,3 +27,4 @@ pub record IsGameOf (a : AutomatonData) (names : Names) (who : Player) (k : ℕ)
   pub bound : g.k ≡ pos k
   pub init : g.init ≡ a.init
   pub lanes : lanes g ≡ length a.states
+  pub letters : HasLetters g
