@@ -1,3 +1,5 @@
 pub mod Bounds
+pub mod Counting
 pub mod Errors
 pub mod Games
+pub mod Rows

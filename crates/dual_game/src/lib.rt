@@ -4,7 +4,9 @@
 mod bounds;
 mod errors;
 mod games;
+mod laws;
 
 pub use bounds::Bounds;
 pub use errors::GameError;
 pub use games::{Pair, automata, automaton, game, kind_of, normal_of};
+pub use laws::counting_is_sound;

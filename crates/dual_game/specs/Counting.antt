@@ -1,0 +1,21 @@
+-- Counting is sound: what a game's lanes keep, the runs of its automaton keep.
+use Rattle.std.specs.Prelude.{◌≡◌, ℕ, pos, length}
+use Rattle.word_core.specs.Automaton.{AutomatonData, IsAutomaton}
+use Rattle.word_core.specs.Machine.{MachineData}
+use Rattle.word_core.specs.Run.{Keeps}
+use Rattle.game_form.specs.Game.{GameData, IsGame, lanes}
+use Rattle.game_form.specs.Vector.{initial}
+use Rattle.game_form.specs.Held.{IsMachineOf, KeepsFrom}
+use Rattle.dual_game.specs.Rows.{HasRows}
+
+-- the game's lanes are the automaton's states, and its rows have the numbers of the edges
+pub record Counts (a : AutomatonData) (g : GameData) : Type 0 where
+  pub automaton : IsAutomaton a
+  pub game : IsGame g
+  pub first : g.init ≡ a.init
+  pub lanes_are : lanes g ≡ length a.states
+  pub rows : HasRows a g
+
+-- a machine that keeps every lane at most at k along all its plays keeps k on the automaton: no run on a play has more marks
+abbrev pub CountingIsSound : Type 0
+CountingIsSound = (a : AutomatonData) (g : GameData) (m : MachineData) (k : ℕ) → Counts a g → g.k ≡ pos k → IsMachineOf g m → KeepsFrom g m 0 (initial g) → Keeps a m k

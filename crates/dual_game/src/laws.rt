@@ -1,0 +1,9 @@
+//! Laws that tie games to the automata that they count on.
+
+ghost use Rattle.dual_game.specs.Counting.{CountingIsSound};
+
+/// Counting is sound: a machine that keeps every lane of a game at most at the bound, along all its plays, keeps the
+/// bound on the automaton whose edges the game counts. So what the solver finds holds of runs.
+pub fn counting_is_sound()
+    ensures { CountingIsSound }
+{}
