@@ -26,7 +26,7 @@ use Rattle.dual_game.specs.Counting.{Counts, CountingIsSound}
 use Rattle.dual_game.specs.Rows.{mark_number, edge_number, HasRows}
 
 -- what a marked edge adds to a count
-abbrev mark : Edge → ℕ
+abbrev pub mark : Edge → ℕ
 mark e = if e.marked then 1 else 0
 
 at_least_max : (a b c : ℕ) → a ≤ b → a ≤ max b c
@@ -35,7 +35,7 @@ at_least_max a b c h = omega arith
 at_most_max : (a b c : ℕ) → a ≤ c → a ≤ max b c
 at_most_max a b c h = omega arith
 
-number_of_mark : (b : Bool) → mark_number b ≡ suc (if b then 1 else 0)
+pub number_of_mark : (b : Bool) → mark_number b ≡ suc (if b then 1 else 0)
 number_of_mark true = refl
 number_of_mark false = refl
 
@@ -89,7 +89,7 @@ letter_again System inputs x = div-add-mod' x (2 ^ inputs)
 letter_again Environment inputs x = div-add-mod' x (2 ^ inputs)
 
 -- the line that decides, with what is known of every line
-decided : (P : Line → Type 0) (lines : List Line) (x : ℕ) (Q : Line → Type 0) → All P lines → MatchOption (choice lines x) ⊥ Q → (l : Line) × P l × Q l
+pub decided : (P : Line → Type 0) (lines : List Line) (x : ℕ) (Q : Line → Type 0) → All P lines → MatchOption (choice lines x) ⊥ Q → (l : Line) × P l × Q l
 decided P [] x Q all h = absurd h
 decided P (l ∷ ls) x Q all h = go (decided P ls x Q tail) (holds l.when x) h
   where
@@ -99,6 +99,14 @@ decided P (l ∷ ls) x Q all h = go (decided P ls x Q tail) (holds l.when x) h
     go : (MatchOption (choice ls x) ⊥ Q → (l : Line) × P l × Q l) → (b : Bool) → MatchOption (cond b (Some l) (choice ls x)) ⊥ Q → (l : Line) × P l × Q l
     go rest true h = (l, all 0 l (omega arith), h)
     go rest false h = rest h
+
+pub length_successor : (g : GameData) (act : ℕ) (v : List ℤ) → length (successor g act v) ≡ lanes g
+length_successor g act v = length-map-range_with_len (arrived (bound g) (action_at g act) v) 0 (lanes g)
+
+pub lane_successor : (g : GameData) (act : ℕ) (v : List ℤ) (p : ℕ) → p < lanes g → lane (successor g act v) p ≡ arrived (bound g) (action_at g act) v p
+lane_successor g act v p lt =
+    let size = length_successor g act v in
+    get_or-map-range_with_len (arrived (bound g) (action_at g act) v) 0 (lanes g) p p (pos 0) (omega arith) (omega arith)
 
 module _ (a : AutomatonData) (g : GameData) (m : MachineData) (known : IsGame g) (well : IsAutomaton a) (is : IsMachine m) (rows : HasRows a g) (lanes_are : lanes g ≡ length a.states)
     (owns : own_of m ≡ own_width g) (others : other_of m ≡ other_width g) (player : m.player ≡ g.player) (inputs : m.inputs ≡ g.inputs) where
@@ -112,19 +120,11 @@ module _ (a : AutomatonData) (g : GameData) (m : MachineData) (known : IsGame g)
   height : (own other : ℕ) → length (action_at g (action_of g own other)) ≡ lanes g
   height own other = (known.actions (action_of g own other) (action_within own other)).height
 
-  length_successor : (act : ℕ) (v : List ℤ) → length (successor g act v) ≡ lanes g
-  length_successor act v = length-map-range_with_len (arrived (bound g) (action_at g act) v) 0 (lanes g)
-
-  lane_successor : (act : ℕ) (v : List ℤ) (p : ℕ) → p < lanes g → lane (successor g act v) p ≡ arrived (bound g) (action_at g act) v p
-  lane_successor act v p lt =
-      let size = length_successor act v in
-      get_or-map-range_with_len (arrived (bound g) (action_at g act) v) 0 (lanes g) p p (pos 0) (omega arith) (omega arith)
-
   -- an edge that holds the letter takes the count on
   stepped : (v : List ℤ) (q c : ℕ) (e : Edge) (own other x : ℕ) → x ≡ letter_of g.player g.inputs (record { own = own; other = other }) → own < 2 ^ own_width g → other < 2 ^ other_width g → length v ≡ lanes g
       → q < length a.states → e.next < length a.states → HasCount v q c → Contains (edges_at a q) e → holds e.cube x ≡ true → HasCount (successor g (action_of g own other) v) e.next (c + mark e)
   stepped v q c e own other x x_is in_own in_other long in_q in_next has edge held =
-      subst (λ z. pos (min (bound g + 1) (c + mark e)) ≤ℤ z) (sym (lane_successor act v e.next (subst (λ n. e.next < n) (sym lanes_are) in_next)))
+      subst (λ z. pos (min (bound g + 1) (c + mark e)) ≤ℤ z) (sym (lane_successor g act v e.next (subst (λ n. e.next < n) (sym lanes_are) in_next)))
       (arrives (bound g) (action_at g act) v q e.next _ (subst (λ n. q < n) (sym (height own other ∙ lanes_are)) in_q) (subst (λ n. q < n) (sym (long ∙ lanes_are)) in_q)
       (brings (bound g) c (mark e) (lane v q) (number (row_at (action_at g act) q) e.next) has large))
     where
@@ -160,7 +160,7 @@ module _ (a : AutomatonData) (g : GameData) (m : MachineData) (known : IsGame g)
       sym (letter_again m.player m.inputs x) ∙ ap (λ p. letter_of p m.inputs move) player ∙ ap (λ i. letter_of g.player i move) inputs in
       let in_next : e.next < length a.states = (edge_within q e in_q run.0).1 in
       let act = action_of g move.own move.other in
-      let rest = counted letters edges found.0.next e.next (c + mark e) (successor g act v) found.1.2 in_next (length_successor act v) (stepped v q c e move.own move.other x x_is in_own in_other long in_q in_next has run.0 run.1) found.2.1 run.2 in
+      let rest = counted letters edges found.0.next e.next (c + mark e) (successor g act v) found.1.2 in_next (length_successor g act v) (stepped v q c e move.own move.other x x_is in_own in_other long in_q in_next has run.0 run.1) found.2.1 run.2 in
       (rest.0, rest.1, rest.2, subst (λ n. HasCount (after g (successor g act v) (moves_of letters)) rest.0 n) (sums c (mark e) (count edges)) rest.3)
     where
       sums : (c d n : ℕ) → (c + d) + n ≡ c + (d + n)

@@ -1,9 +1,15 @@
 //! Laws that tie games to the automata that they count on.
 
-ghost use Rattle.dual_game.specs.Counting.{CountingIsSound};
+ghost use Rattle.dual_game.specs.Counting.{CountingIsSound, CountingIsExact};
 
 /// Counting is sound: a machine that keeps every lane of a game at most at the bound, along all its plays, keeps the
 /// bound on the automaton whose edges the game counts. So what the solver finds holds of runs.
 pub fn counting_is_sound()
     ensures { CountingIsSound }
+{}
+
+/// Counting is exact: a machine that keeps the bound on the automaton keeps every lane at most at the bound. So a game is
+/// lost only where no machine of its kind, of any size, keeps the bound.
+pub fn counting_is_exact()
+    ensures { CountingIsExact }
 {}

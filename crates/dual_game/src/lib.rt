@@ -9,4 +9,4 @@ mod laws;
 pub use bounds::Bounds;
 pub use errors::GameError;
 pub use games::{Pair, automata, automaton, game, kind_of, normal_of};
-pub use laws::counting_is_sound;
+pub use laws::{counting_is_exact, counting_is_sound};
