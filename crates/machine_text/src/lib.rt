@@ -10,7 +10,7 @@ mod reading;
 
 pub use errors::{LassoError, MachineError, Memory};
 pub use lassos::{print_lasso, read_lasso};
-pub use printing::print_machine;
+pub use printing::{player_word, print_machine};
 pub use reading::read_machine;
 
 #[cfg(test)]

@@ -1,0 +1,5 @@
+pub mod Answers
+pub mod Errors
+pub mod Faults
+pub mod Runs
+pub mod Writing

@@ -1,0 +1,71 @@
+//! The checks of machines and lassos.
+
+ghost use Rattle.std.specs.Prelude.{◌≡◌, ◌≤◌, IfOk, IfErr, true, length, codes};
+ghost use Rattle.ltl_form.specs.Formula.{signals_below};
+ghost use Rattle.tlsf_basic.specs.Specification.{signal_count};
+ghost use Rattle.bonsai_run.specs.Answers.{IsAnswer};
+ghost use Rattle.bonsai_run.specs.Faults.{IsInner};
+
+use crate::answers::{Answer, word_answer};
+use crate::faults::Fault;
+use dual_game::{automaton, normal_of};
+use ltl_form::holds;
+use machine_text::{read_lasso, read_machine};
+use std::alloc::{AllocError, Global};
+use tlsf_basic::Spec;
+use witness_check::keeps;
+use word_core::Player;
+
+/// Whether the machine of a text, of at most 1,048,576 bytes, keeps the bound on its player's
+/// automaton.
+pub fn check_answer(alloc: Global, spec: &Spec, text: &[u8], bound: u32) -> Result<Answer, Fault>
+    requires short { length text.now ≤ 1048576 }
+    requires few { signal_count spec.now.names ≤ 40 }
+    requires numbered { signals_below (signal_count spec.now.names) spec.now.formula ≡ true }
+    ensures answer { IfOk result (λ a. IsAnswer a.status a.text.items) }
+    ensures fault { IfErr result IsInner }
+{
+    let machine = read_machine(alloc, text, &spec.names)?;
+    let a = automaton(alloc, spec, machine.player())?;
+    let kept = keeps(alloc, &a, &machine, bound)?;
+    Ok(kept_answer(alloc, kept)?)
+}
+
+/// Whether the formula holds on the lasso of a text, of at most 1,048,576 bytes.
+pub fn eval_answer(alloc: Global, spec: &Spec, text: &[u8]) -> Result<Answer, Fault>
+    requires short { length text.now ≤ 1048576 }
+    requires few { signal_count spec.now.names ≤ 40 }
+    requires numbered { signals_below (signal_count spec.now.names) spec.now.formula ≡ true }
+    ensures answer { IfOk result (λ a. IsAnswer a.status a.text.items) }
+    ensures fault { IfErr result IsInner }
+{
+    let signals = spec.names.inputs.len() as u32 + spec.names.outputs.len() as u32;
+    let lasso = read_lasso(alloc, text, signals)?;
+    let normal = normal_of(alloc, spec, Player::Environment)?;
+    let held = holds(alloc, &normal, &lasso)?;
+    Ok(held_answer(alloc, held)?)
+}
+
+/// Whether a bound was kept, in words.
+#[tactic(auto, using(crate::proofs::Answering::is_valid, crate::proofs::Answering::is_over))]
+fn kept_answer(alloc: Global, kept: bool) -> Result<Answer, AllocError>
+    ensures { IfOk result (λ a. IsAnswer a.status a.text.items) }
+{
+    if kept {
+        word_answer(alloc, 0, b"VALID")
+    } else {
+        word_answer(alloc, 40, b"OVER")
+    }
+}
+
+/// Whether a formula held, in words.
+#[tactic(auto, using(crate::proofs::Answering::is_holds, crate::proofs::Answering::is_fails))]
+fn held_answer(alloc: Global, held: bool) -> Result<Answer, AllocError>
+    ensures { IfOk result (λ a. IsAnswer a.status a.text.items) }
+{
+    if held {
+        word_answer(alloc, 0, b"HOLDS")
+    } else {
+        word_answer(alloc, 40, b"FAILS")
+    }
+}

@@ -1,0 +1,91 @@
+//! The text of an arbiter with its answer.
+
+ghost use Rattle.std.specs.Prelude.{◌≡◌, ◌++◌, ◌≤◌, IfOk, IfErr, OnOk};
+ghost use Rattle.spec_gen.specs.Arbiter.{arbiter_text};
+ghost use Rattle.bonsai_run.specs.Answers.{IsAnswer, won_comment, unknown_comment};
+ghost use Rattle.bonsai_run.specs.Faults.{IsInner};
+
+use crate::answers::{Answer, push_number, verdict_word};
+use crate::faults::Fault;
+use crate::verdicts::{Verdict, decide};
+use dual_game::Bounds;
+use spec_gen::arbiter;
+use std::alloc::{AllocError, Global};
+use tlsf_basic::read_spec;
+use word_core::Machine;
+
+/// The bounds that `synth` tries where none is given.
+const DEFAULT_BOUNDS: Bounds = Bounds {
+    first: 0,
+    step: 1,
+    last: 8,
+};
+
+/// The specification of an arbiter for 1 to 8 clients, with the verdict on it in its last line.
+pub fn generated_answer(alloc: Global, clients: u32) -> Result<Answer, Fault>
+    requires some { 1 ≤ clients }
+    requires few { clients ≤ 8 }
+    ensures answer { IfOk result (λ a. IsAnswer a.status a.text.items) }
+    ensures fault { IfErr result IsInner }
+{
+    let text = arbiter(alloc, clients)?;
+    let spec = read_spec(alloc, &text, false)?;
+    let verdict = decide(alloc, &spec, DEFAULT_BOUNDS)?;
+    Ok(commented(text, clients, &verdict)?)
+}
+
+/// The answer of an arbiter's text with a comment on the verdict.
+fn commented(text: Vec<u8>, clients: u32, verdict: &Verdict) -> Result<Answer, AllocError>
+    requires { text.items ≡ arbiter_text clients }
+    ensures { IfOk result (λ a. IsAnswer a.status a.text.items) }
+{
+    match verdict {
+        Verdict::Won { bound, machine } => commented_won(text, clients, *bound, machine),
+        Verdict::Unknown { bound } => commented_unknown(text, clients, *bound),
+    }
+}
+
+fn commented_won(
+    text: Vec<u8>,
+    _clients: u32,
+    bound: u32,
+    machine: &Machine,
+) -> Result<Answer, AllocError>
+    requires { text.items ≡ arbiter_text _clients }
+    ensures { IfOk result (λ a. IsAnswer a.status a.text.items) }
+{
+    let mut text = text;
+    push_won(&mut text, bound, machine)?;
+    Ok(Answer { status: 0, text })
+}
+
+fn commented_unknown(text: Vec<u8>, _clients: u32, bound: u32) -> Result<Answer, AllocError>
+    requires { text.items ≡ arbiter_text _clients }
+    ensures { IfOk result (λ a. IsAnswer a.status a.text.items) }
+{
+    let mut text = text;
+    push_unknown(&mut text, bound)?;
+    Ok(Answer { status: 0, text })
+}
+
+fn push_won(text: &mut Vec<u8>, bound: u32, machine: &Machine) -> Result<(), AllocError>
+    ensures { OnOk result (text.new.items ≡ text.old.items ++ won_comment bound machine.now) }
+{
+    text.extend_from_slice(b"// ")?;
+    text.extend_from_slice(verdict_word(machine.player()))?;
+    text.extend_from_slice(b" bound ")?;
+    push_number(text, u64::from(bound))?;
+    text.extend_from_slice(b" states ")?;
+    push_number(text, machine.states().len() as u64)?;
+    text.push(b'\n')?;
+    Ok(())
+}
+
+fn push_unknown(text: &mut Vec<u8>, bound: u32) -> Result<(), AllocError>
+    ensures { OnOk result (text.new.items ≡ text.old.items ++ unknown_comment bound) }
+{
+    text.extend_from_slice(b"// UNKNOWN bound ")?;
+    push_number(text, u64::from(bound))?;
+    text.push(b'\n')?;
+    Ok(())
+}

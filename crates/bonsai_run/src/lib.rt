@@ -1,0 +1,20 @@
+//! The top call: from the words of an order to a status, the bytes of its answer and the line of a fault.
+//!
+//! The whole answer is made before its first byte is written, and writing takes no memory.
+#![tactic(auto)]
+
+mod answers;
+mod checks;
+mod downsets;
+mod errors;
+mod faults;
+mod generations;
+mod orders;
+mod runs;
+#[cfg(test)]
+mod tests;
+mod texts;
+mod verdicts;
+mod writing;
+
+pub use runs::run_alone;

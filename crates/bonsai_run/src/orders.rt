@@ -1,0 +1,131 @@
+//! The answers of orders.
+
+ghost use Rattle.std.specs.Prelude.{◌≡◌, ◌≤◌, [], IfOk, IfErr};
+ghost use Rattle.bonsai_words.specs.Order.{IsInRange, AreBounds, IsWithin};
+ghost use Rattle.bonsai_run.specs.Answers.{IsAnswer};
+ghost use Rattle.bonsai_run.specs.Faults.{Blames};
+ghost use Rattle.bonsai_run.specs.Runs.{first_name, second_name};
+
+use crate::answers::{Answer, verdict_answer};
+use crate::checks::{check_answer, eval_answer};
+use crate::downsets::downset_answer;
+use crate::faults::{Fault, Source};
+use crate::generations::generated_answer;
+use crate::texts::{specification, text_of};
+use crate::verdicts::decide;
+use bonsai_words::Order;
+use dual_game::Bounds;
+use shelf_io::Shelf;
+use std::alloc::Global;
+use word_core::Player;
+
+/// What an order asks for.
+pub fn answer_of<H: Shelf>(alloc: Global, order: &Order, shelf: &mut H) -> Result<Answer, Fault>
+    requires { IsInRange order.now }
+    ensures answer { IfOk result (λ a. IsAnswer a.status a.text.items) }
+    ensures blames { IfErr result (Blames (H.faults shelf.old) (H.faults shelf.new) (H.last_failed shelf.new) (first_name order.now) (second_name order.now)) }
+{
+    match order {
+        Order::Synth {
+            name,
+            bounds,
+            as_written,
+            ..
+        } => { synth(alloc, shelf, name.as_str(), *bounds, *as_written) }
+        Order::Downset {
+            name,
+            player,
+            bound,
+            as_written,
+        } => { downset(alloc, shelf, name.as_str(), *player, *bound, *as_written) }
+        Order::Check {
+            name,
+            machine,
+            bound,
+            as_written,
+        } => {
+            check(
+                alloc,
+                shelf,
+                name.as_str(),
+                machine.as_str(),
+                *bound,
+                *as_written,
+            )
+        }
+        Order::Eval {
+            name,
+            lasso,
+            as_written,
+        } => { eval(alloc, shelf, name.as_str(), lasso.as_str(), *as_written) }
+        Order::Gen { clients, .. } => generated_answer(alloc, *clients),
+    }
+}
+
+/// The verdict, with the bound and the machine.
+fn synth<H: Shelf>(
+    alloc: Global,
+    shelf: &mut H,
+    name: &str,
+    bounds: (u32, u32, u32),
+    as_written: bool,
+) -> Result<Answer, Fault>
+    requires { AreBounds bounds }
+    ensures answer { IfOk result (λ a. IsAnswer a.status a.text.items) }
+    ensures blames { IfErr result (Blames (H.faults shelf.old) (H.faults shelf.new) (H.last_failed shelf.new) name.now []) }
+{
+    let spec = specification(alloc, shelf, name, "", as_written)?;
+    let (first, step, last) = bounds;
+    let verdict = decide(alloc, &spec, Bounds { first, step, last })?;
+    Ok(verdict_answer(alloc, &verdict, &spec.names)?)
+}
+
+/// The maximal vectors that a player holds.
+fn downset<H: Shelf>(
+    alloc: Global,
+    shelf: &mut H,
+    name: &str,
+    player: Player,
+    bound: u32,
+    as_written: bool,
+) -> Result<Answer, Fault>
+    requires { bound ≤ 10000 }
+    ensures answer { IfOk result (λ a. IsAnswer a.status a.text.items) }
+    ensures blames { IfErr result (Blames (H.faults shelf.old) (H.faults shelf.new) (H.last_failed shelf.new) name.now []) }
+{
+    let spec = specification(alloc, shelf, name, "", as_written)?;
+    downset_answer(alloc, &spec, player, bound)
+}
+
+/// Whether a machine keeps a bound.
+fn check<H: Shelf>(
+    alloc: Global,
+    shelf: &mut H,
+    name: &str,
+    machine: &str,
+    bound: u32,
+    as_written: bool,
+) -> Result<Answer, Fault>
+    ensures answer { IfOk result (λ a. IsAnswer a.status a.text.items) }
+    ensures blames { IfErr result (Blames (H.faults shelf.old) (H.faults shelf.new) (H.last_failed shelf.new) name.now machine.now) }
+{
+    let spec = specification(alloc, shelf, name, machine, as_written)?;
+    let text = text_of(alloc, shelf, name, machine, Source::Other)?;
+    check_answer(alloc, &spec, &text, bound)
+}
+
+/// Whether the formula holds on a lasso.
+fn eval<H: Shelf>(
+    alloc: Global,
+    shelf: &mut H,
+    name: &str,
+    lasso: &str,
+    as_written: bool,
+) -> Result<Answer, Fault>
+    ensures answer { IfOk result (λ a. IsAnswer a.status a.text.items) }
+    ensures blames { IfErr result (Blames (H.faults shelf.old) (H.faults shelf.new) (H.last_failed shelf.new) name.now lasso.now) }
+{
+    let spec = specification(alloc, shelf, name, lasso, as_written)?;
+    let text = text_of(alloc, shelf, name, lasso, Source::Other)?;
+    eval_answer(alloc, &spec, &text)
+}

@@ -1,0 +1,59 @@
+//! The texts that an order names.
+
+ghost use Rattle.std.specs.Prelude.{◌≡◌, ◌≤◌, length, vec_len, IfOk, IfErr, true};
+ghost use Rattle.ltl_form.specs.Formula.{signals_below};
+ghost use Rattle.tlsf_basic.specs.Specification.{signal_count};
+ghost use Rattle.bonsai_run.specs.Faults.{Blames};
+
+use crate::faults::{Fault, Source};
+use shelf_io::{Shelf, ShelfError};
+use std::alloc::Global;
+use tlsf_basic::{Spec, read_spec};
+
+/// The most bytes of a text.
+const MOST_BYTES: usize = 1_048_576;
+
+/// The bytes of one of an order's texts, at most 1,048,576.
+pub fn text_of<H: Shelf>(
+    alloc: Global,
+    shelf: &mut H,
+    name: &str,
+    other: &str,
+    source: Source,
+) -> Result<Vec<u8>, Fault>
+    ensures short { IfOk result (λ text. vec_len text ≤ 1048576) }
+    ensures blames { IfErr result (Blames (H.faults shelf.old) (H.faults shelf.new) (H.last_failed shelf.new) name.now other.now) }
+    ensures later { H.faults shelf.old ≤ H.faults shelf.new }
+{
+    let asked = match source {
+        Source::Specification => name,
+        Source::Other => other,
+    };
+    match shelf.fetch(alloc, asked, MOST_BYTES + 1) {
+        Ok(text) => {
+            if text.len() > MOST_BYTES {
+                return Err(Fault::Length(source));
+            }
+            Ok(text)
+        }
+        Err(ShelfError::Failed) => Err(Fault::Unread(source)),
+        Err(ShelfError::Memory) => Err(Fault::Memory),
+    }
+}
+
+/// The specification that an order names.
+pub fn specification<H: Shelf>(
+    alloc: Global,
+    shelf: &mut H,
+    name: &str,
+    other: &str,
+    as_written: bool,
+) -> Result<Spec, Fault>
+    ensures few { IfOk result (λ spec. signal_count spec.names ≤ 40) }
+    ensures numbered { IfOk result (λ spec. signals_below (signal_count spec.names) spec.formula ≡ true) }
+    ensures blames { IfErr result (Blames (H.faults shelf.old) (H.faults shelf.new) (H.last_failed shelf.new) name.now other.now) }
+    ensures later { H.faults shelf.old ≤ H.faults shelf.new }
+{
+    let text = text_of(alloc, shelf, name, other, Source::Specification)?;
+    Ok(read_spec(alloc, &text, as_written)?)
+}

@@ -1,0 +1,10 @@
+pub mod Answered
+pub mod Faults
+pub mod Kept
+pub mod Leading
+pub mod Made
+pub mod Numbered
+pub mod Played
+pub mod Restricted
+pub mod Splits
+pub mod Walked

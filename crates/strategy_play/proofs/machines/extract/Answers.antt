@@ -1,0 +1,13 @@
+use Rattle.strategy_play.proofs.Faults.{no_fault, is_machine}
+use Rattle.strategy_play.proofs.Kept.{made_keeps}
+use Rattle.strategy_play.proofs.machines.extract.Goals as goal
+
+pub unreachable-requires : goal.unreachable-requires
+unreachable-requires c =
+    no_fault _ (is_machine c.args.g.now c.player.result c.kind.result c.inputs.result c.outputs.result c.in_ok-states.states.items c.known.ensures
+    c.player.ensures c.kind.ensures c.inputs.ensures c.outputs.ensures c.in_ok-states.ensures.some c.in_ok-states.ensures.states) c.in-Err.field-0 c.in-Err.ensures.fault
+
+pub returns-clause-keeps : goal.returns-clause-keeps
+returns-clause-keeps c =
+    made_keeps c.args.g.now c.args.d.now c.in-Ok.machine c.player.result c.kind.result c.inputs.result c.outputs.result c.in_ok-states.states.items c.known.ensures c.requires.vectors
+    c.in-Ok.ensures.ok c.player.ensures c.kind.ensures c.inputs.ensures c.outputs.ensures c.in_ok-states.ensures.some c.in_ok-states.ensures.states c.in_ok-states.ensures.strategy
