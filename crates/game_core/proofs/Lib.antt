@@ -1,7 +1,10 @@
 pub mod Boxes
 pub mod ColumnReads
 pub mod Extents
+pub mod Failing
 pub mod First
+pub mod FullColumns
+pub mod Greatest
 pub mod Kept
 pub mod Lists
 pub mod Options
@@ -11,5 +14,6 @@ pub mod Pieces
 pub mod Places
 pub mod Replacements
 pub mod Settled
+pub mod Unders
 pub mod Weaker
 pub mod Works

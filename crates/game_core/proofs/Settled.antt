@@ -13,7 +13,7 @@ use Rattle.game_form.specs.Game.{GameData}
 use Rattle.game_form.specs.Vector.{IsVector, initial, successor}
 use Rattle.cpre_step.specs.Refinement.{answers, answers_by}
 use Rattle.game_core.specs.Board.{puts}
-use Rattle.game_core.specs.Solved.{IsSettled}
+use Rattle.game_core.specs.Solved.{IsClosed, IsSettled}
 use Rattle.game_core.proofs.Kept.{all_puts}
 
 or_assoc : (a b c : Bool) → ((a || b) || c) ≡ (a || (b || c))
@@ -53,6 +53,7 @@ settled_puts g whole vectors list h is =
     subst (IsSettled g whole) (sym is) (record {
       vectors = all_puts (IsVector g) [] vectors tt h.vectors;
       closed = All-from_recursion Stays (puts [] vectors) (all_puts Stays [] vectors tt (recursion_from_All Stays vectors (λ k d lt. answers_same g (puts [] vectors) vectors _ same ∙ h.closed k d lt)));
+      largest = λ other (closed : IsClosed g other) k d lt. same _ ∙ h.largest other closed k d lt;
       begins = λ asked. same (initial g) ∙ h.begins asked;
     })
   where

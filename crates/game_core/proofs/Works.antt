@@ -21,10 +21,10 @@ use Rattle.game_core.specs.Front.{under}
 use Rattle.game_core.specs.Plan.{AreActions, IsAtMost, IsPlan, replaces_by, each_planned, each_class}
 use Rattle.game_core.proofs.Orders.{below_from}
 
-any_weaker : {X : Type 0} (p q : X → Bool) (xs : List X) → All (λ x. p x ≡ true → q x ≡ true) xs → list_any p xs ≡ true → list_any q xs ≡ true
+pub any_weaker : {X : Type 0} (p q : X → Bool) (xs : List X) → All (λ x. p x ≡ true → q x ≡ true) xs → list_any p xs ≡ true → list_any q xs ≡ true
 any_weaker p q xs each h = let a = Any-from_list_any p xs h in list_any_at q xs a.0 a.1 a.2 (each a.0 a.1 a.2 (ap p a.3 ∙ a.4))
 
-all_weaker : {X : Type 0} (p q : X → Bool) (xs : List X) → All (λ x. p x ≡ true → q x ≡ true) xs → list_all p xs ≡ true → list_all q xs ≡ true
+pub all_weaker : {X : Type 0} (p q : X → Bool) (xs : List X) → All (λ x. p x ≡ true → q x ≡ true) xs → list_all p xs ≡ true → list_all q xs ≡ true
 all_weaker p q [] each h = refl
 all_weaker p q (x ∷ xs) each h =
     let parts = and_parts (p x) (list_all p xs) h in

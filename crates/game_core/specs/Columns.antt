@@ -28,3 +28,11 @@ some_covers f columns options = list_any (λ at. under (column_at columns at) f)
 
 abbrev pub each_covers : List ℤ → List (Vec (List ℤ) Global) → List ℕ → Bool
 each_covers f columns options = list_all (λ at. under (column_at columns at) f) options
+
+-- the columns of these options have all predecessors
+abbrev pub AreFull : List (List ℤ) → List (Vec (List ℤ) Global) → List ℕ → Type 0
+AreFull vectors columns options = All (λ at. length (column_at columns at) ≡ length vectors) options
+
+-- no column is shorter than it was
+abbrev pub HaveGrown : List (Vec (List ℤ) Global) → List (Vec (List ℤ) Global) → Type 0
+HaveGrown old new = (at : ℕ) → length (column_at old at) ≤ length (column_at new at)

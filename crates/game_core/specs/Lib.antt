@@ -6,5 +6,6 @@ pub mod Front
 pub mod Known
 pub mod Pending
 pub mod Plan
+pub mod Remains
 pub mod Solved
 pub mod Tried

@@ -1,6 +1,6 @@
 //! An entry is taken out, and vectors strictly below it take its place.
 
-ghost use Rattle.std.specs.Prelude.{◌≡◌, ◌<◌, ◌≤◌, ◌+◌, ℕ, ℤ, List, [], ◌∷◌, ◌++◌, false, true, length, vec_len, remove, IfOk, OnOk, IsTrue, ◌↔◌, slice_index_or, Vec};
+ghost use Rattle.std.specs.Prelude.{◌≡◌, ◌<◌, ◌≤◌, ◌+◌, ◌||◌, ℕ, ℤ, List, [], ◌∷◌, ◌++◌, false, true, length, vec_len, remove, IfOk, OnOk, IsTrue, ◌↔◌, slice_index_or, Vec};
 ghost use Rattle.std.specs.declared.alloc.Global.{Global};
 ghost use Rattle.std.specs.List.{All, AllPairs};
 ghost use Rattle.game_form.specs.Game.{GameData, lanes};
@@ -9,6 +9,7 @@ ghost use Rattle.game_core.specs.Entries.{AreEntries};
 ghost use Rattle.game_core.specs.Front.{IsApart, IsPiece, Misses, under, extent};
 ghost use Rattle.game_core.specs.Columns.{AreColumns, IsColumn};
 ghost use Rattle.game_core.specs.Known.{HaveAnswers};
+ghost use Rattle.game_core.specs.Remains.{AreRemains, KeepsAnswered};
 ghost use Rattle.counter_vec.specs.Counters.{at_or_below};
 
 use crate::fronts::{Note, forget_place, sum_of};
@@ -113,8 +114,11 @@ fn put_piece(
     requires piece { IsPiece f.now piece }
     requires entries { AreEntries g.now (vec_len note.now.answers) entries.old.vectors.items entries.old.pending.items entries.old.notes.items }
     requires misses { Misses f.now entries.old.vectors.items }
+    requires above { All (λ e. at_or_below e piece ≡ false) entries.old.vectors.items }
     ensures entries { OnOk result (AreEntries g.now (vec_len note.now.answers) entries.new.vectors.items entries.new.pending.items entries.new.notes.items) }
     ensures misses { OnOk result (Misses f.now entries.new.vectors.items) }
+    ensures whole { OnOk result ((u : List ℤ) → under entries.new.vectors.items u ≡ (under entries.old.vectors.items u || at_or_below u piece)) }
+    ensures rest { OnOk result ((rest : List (List ℤ)) → Misses piece rest → All (λ e. Misses e rest) entries.old.vectors.items → All (λ e. Misses e rest) entries.new.vectors.items) }
     ensures columns { OnOk result ((columns : List (Vec (List ℤ) Global)) → AreColumns g.now entries.old.vectors.items columns → AreColumns g.now entries.new.vectors.items columns) }
     ensures under { (old : List (List ℤ)) → All (λ e. under (f.now ∷ old) e ≡ true) entries.old.vectors.items → OnOk result (All (λ e. under (f.now ∷ old) e ≡ true) entries.new.vectors.items) }
 {
@@ -136,8 +140,11 @@ fn put_pieces(
 ) -> Result<(), AllocError>
     requires entry { IsVector g.now f.now }
     requires pieces { All (IsPiece f.now) pieces.items }
+    requires apart { AllPairs IsApart pieces.items }
     requires entries { AreEntries g.now (vec_len note.now.answers) entries.old.vectors.items entries.old.pending.items entries.old.notes.items }
     requires misses { Misses f.now entries.old.vectors.items }
+    requires above { All (λ e. at_or_below e f.now ≡ false) entries.old.vectors.items }
+    ensures whole { OnOk result ((u : List ℤ) → under entries.new.vectors.items u ≡ (under entries.old.vectors.items u || under pieces.items u)) }
     ensures entries { OnOk result (AreEntries g.now (vec_len note.now.answers) entries.new.vectors.items entries.new.pending.items entries.new.notes.items) }
     ensures misses { OnOk result (Misses f.now entries.new.vectors.items) }
     ensures columns { OnOk result ((columns : List (Vec (List ℤ) Global)) → AreColumns g.now entries.old.vectors.items columns → AreColumns g.now entries.new.vectors.items columns) }
@@ -184,7 +191,8 @@ pub fn exchange(
     requires place { place < length entries.old.vectors.items }
     requires entries { AreEntries g.now slots entries.old.vectors.items entries.old.pending.items entries.old.notes.items }
     requires columns { AreColumns g.now entries.old.vectors.items columns.old }
-    requires pieces { (f : List ℤ) → f ≡ slice_index_or entries.old.vectors.items place f → All (IsPiece f) pieces.items }
+    requires pieces { (f : List ℤ) → f ≡ slice_index_or entries.old.vectors.items place f → AreRemains g.now entries.old.vectors.items f pieces.items }
+    ensures keeps { OnOk result (KeepsAnswered g.now entries.old.vectors.items entries.new.vectors.items) }
     ensures entries { OnOk result (AreEntries g.now slots entries.new.vectors.items entries.new.pending.items entries.new.notes.items) }
     ensures columns { OnOk result (AreColumns g.now entries.new.vectors.items columns.new) }
     ensures falls { OnOk result (extent (bound g.now) (lanes g.now) entries.new.vectors.items < extent (bound g.now) (lanes g.now) entries.old.vectors.items) }

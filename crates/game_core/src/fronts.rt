@@ -92,6 +92,13 @@ pub fn forget_place(answers: &mut [Option<usize>], gone: usize) -> bool {
     was_there
 }
 
+/// Whether an entry is at or above `v`.
+pub fn is_under(vectors: &[Counters], v: &Counters) -> bool
+    ensures { result ≡ under vectors.now v.now }
+{
+    find_cover(vectors, v).is_some()
+}
+
 /// The place of an entry at or above `v`.
 pub fn find_cover(vectors: &[Counters], v: &Counters) -> Option<usize>
     ensures some { IfSome result (λ i. i < length vectors.now) }

@@ -1,12 +1,14 @@
 //! A look at one entry: whether the player can answer one step from it, and else what takes its place.
 
-ghost use Rattle.std.specs.Prelude.{◌≡◌, ◌<◌, ◌≤◌, ℕ, true, length, vec_len, IfOk, IfSome, IfNone};
-ghost use Rattle.std.specs.List.{All, list_any, list_all};
+ghost use Rattle.std.specs.Prelude.{◌≡◌, ◌<◌, ◌≤◌, ℕ, ℤ, List, true, length, vec_len, IfOk, IfSome, IfNone, OnOk};
+ghost use Rattle.std.specs.List.{All, AllPairs, list_any, list_all};
+ghost use Rattle.counter_vec.specs.Counters.{at_or_below};
 ghost use Rattle.cpre_step.specs.Refinement.{action_works, answers};
 ghost use Rattle.game_form.specs.Vector.{IsVector};
-ghost use Rattle.game_core.specs.Columns.{AreColumns};
-ghost use Rattle.game_core.specs.Front.{IsPiece};
+ghost use Rattle.game_core.specs.Columns.{AreColumns, AreFull, HaveGrown};
+ghost use Rattle.game_core.specs.Front.{IsApart, IsPiece, under};
 ghost use Rattle.game_core.specs.Plan.{AreActions, IsPlan, each_planned};
+ghost use Rattle.game_core.specs.Remains.{AreRemains};
 ghost use Rattle.game_core.specs.Tried.{HasTried};
 
 use crate::fronts::Note;
@@ -36,7 +38,7 @@ pub fn look(
     requires columns { AreColumns g.now vectors.now columns.old }
     ensures answers { vec_len note.new.answers ≡ vec_len note.old.answers }
     ensures columns { AreColumns g.now vectors.now columns.new }
-    ensures pieces { IfOk result (λ o. IfSome o (λ v. All (IsPiece f.now) v.items)) }
+    ensures remains { IfOk result (λ o. IfSome o (λ v. AreRemains g.now vectors.now f.now v.items)) }
     ensures stays { IfOk result (λ o. IfNone o (answers g.now vectors.now f.now ≡ true)) }
 {
     g.known();
@@ -64,6 +66,8 @@ fn look_second(
     ensures answers { vec_len note.new.answers ≡ vec_len note.old.answers }
     ensures columns { AreColumns g.now vectors.now columns.new }
     ensures pieces { IfOk result (λ o. IfSome o (λ v. All (IsPiece f.now) v.items)) }
+    ensures apart { IfOk result (λ o. IfSome o (λ v. AllPairs IsApart v.items)) }
+    ensures whole { IfOk result (λ o. IfSome o (λ v. (u : List ℤ) → IsVector g.now u → at_or_below u f.now ≡ true → each_planned (action_works g.now vectors.now u) plan.now ≡ true → under v.items u ≡ true)) }
     ensures stays { IfOk result (λ o. IfNone o (each_planned (action_works g.now vectors.now f.now) plan.now ≡ true)) }
 {
     g.known();
@@ -88,7 +92,8 @@ fn fill_all(
     requires plan { All (λ c. AreActions (length g.now.actions) c.items) plan.now }
     requires vectors { All (IsVector g.now) vectors.now }
     requires columns { AreColumns g.now vectors.now columns.old }
-    ensures { AreColumns g.now vectors.now columns.new }
+    ensures columns { AreColumns g.now vectors.now columns.new }
+    ensures full { OnOk result (All (λ c. AreFull vectors.now columns.new c.items) plan.now) }
 {
     for c in 0..plan.len() {
         fill(alloc, g, vectors, columns, &plan[c])?;
@@ -144,6 +149,8 @@ fn look_first(
     ensures answers { vec_len note.new.answers ≡ vec_len note.old.answers }
     ensures columns { AreColumns g.now vectors.now columns.new }
     ensures pieces { IfOk result (λ o. IfSome o (λ v. All (IsPiece f.now) v.items)) }
+    ensures apart { IfOk result (λ o. IfSome o (λ v. AllPairs IsApart v.items)) }
+    ensures whole { IfOk result (λ o. IfSome o (λ v. (u : List ℤ) → IsVector g.now u → at_or_below u f.now ≡ true → list_any (λ c. list_all (action_works g.now vectors.now u) c.items) plan.now ≡ true → under v.items u ≡ true)) }
     ensures stays { IfOk result (λ o. IfNone o (list_any (λ c. list_all (action_works g.now vectors.now f.now) c.items) plan.now ≡ true)) }
 {
     g.known();

@@ -1,14 +1,16 @@
 //! The maximal vectors below an entry from which a player can answer.
 
-ghost use Rattle.std.specs.Prelude.{◌≡◌, ◌<◌, ℕ, List, ℤ, true, false, length, vec_len, IfOk, not};
-ghost use Rattle.std.specs.List.{All, filter};
+ghost use Rattle.std.specs.Prelude.{◌≡◌, ◌<◌, ◌&&◌, ◌||◌, ℕ, List, ℤ, true, false, length, vec_len, IfOk, OnOk, not, slice_index_or};
+ghost use Rattle.std.specs.List.{All, AllPairs, filter, list_any};
 ghost use Rattle.counter_vec.specs.Counters.{at_or_below, AreCounters};
-ghost use Rattle.game_core.specs.Columns.{column_at, MissesAll};
-ghost use Rattle.game_core.specs.Front.{IsPiece, Misses};
+ghost use Rattle.game_core.specs.Columns.{column_at, some_covers, each_covers, MissesAll};
+ghost use Rattle.game_core.specs.Front.{IsApart, IsPiece, Misses, under};
 ghost use Rattle.game_core.specs.Plan.{AreActions};
 ghost use Rattle.game_form.specs.Game.{lanes};
+ghost use Rattle.game_core.specs.Tried.{AreOptions};
 ghost use Rattle.game_form.specs.Vector.{IsVector};
 
+use crate::fronts::is_under;
 use antichain_list::Entry;
 use counter_vec::Counters;
 use std::alloc::{AllocError, Global};
@@ -24,9 +26,12 @@ fn drop_below(kept: &mut Vec<Counters>, v: &Counters)
 fn add_maximal(kept: &mut Vec<Counters>, piece: Counters, f: &Counters) -> Result<(), AllocError>
     requires piece { IsPiece f.now piece }
     requires kept { All (IsPiece f.now) kept.old.items }
-    ensures { All (IsPiece f.now) kept.new.items }
+    requires apart { AllPairs IsApart kept.old.items }
+    ensures kept { All (IsPiece f.now) kept.new.items }
+    ensures apart { AllPairs IsApart kept.new.items }
+    ensures under { OnOk result ((u : List ℤ) → under kept.new.items u ≡ (under kept.old.items u || at_or_below u piece)) }
 {
-    if kept.iter().any(|x| piece.at_or_below(x)) {
+    if is_under(kept, &piece) {
         return Ok(());
     }
     drop_below(kept, &piece);
@@ -46,7 +51,10 @@ fn add_meet(
     requires under { at_or_below v.now f.now ≡ true }
     requires strict { (m : List ℤ) → at_or_below m v.now ≡ true → at_or_below m p.now ≡ true → at_or_below f.now m ≡ false }
     requires kept { All (IsPiece f.now) kept.old.items }
-    ensures { All (IsPiece f.now) kept.new.items }
+    requires apart { AllPairs IsApart kept.old.items }
+    ensures kept { All (IsPiece f.now) kept.new.items }
+    ensures apart { AllPairs IsApart kept.new.items }
+    ensures under { OnOk result ((u : List ℤ) → under kept.new.items u ≡ (under kept.old.items u || (at_or_below u v.now && at_or_below u p.now))) }
 {
     let meet = v.meet(alloc, p)?;
     let _ = meet.lanes();
@@ -63,7 +71,10 @@ fn add_first(
     requires same { All (λ p. length p ≡ length f.now) column.now }
     requires strict { Misses f.now column.now }
     requires kept { All (IsPiece f.now) kept.old.items }
-    ensures { All (IsPiece f.now) kept.new.items }
+    requires apart { AllPairs IsApart kept.old.items }
+    ensures kept { All (IsPiece f.now) kept.new.items }
+    ensures apart { AllPairs IsApart kept.new.items }
+    ensures under { OnOk result ((u : List ℤ) → under kept.new.items u ≡ (under kept.old.items u || (at_or_below u f.now && under column.now u))) }
 {
     for j in 0..column.len() {
         add_meet(alloc, f, &column[j], kept, f)?;
@@ -82,7 +93,10 @@ fn add_more(
     requires piece { IsPiece f.now piece.now }
     requires same { All (λ p. length p ≡ length f.now) column.now }
     requires kept { All (IsPiece f.now) kept.old.items }
-    ensures { All (IsPiece f.now) kept.new.items }
+    requires apart { AllPairs IsApart kept.old.items }
+    ensures kept { All (IsPiece f.now) kept.new.items }
+    ensures apart { AllPairs IsApart kept.new.items }
+    ensures under { OnOk result ((u : List ℤ) → under kept.new.items u ≡ (under kept.old.items u || (at_or_below u piece.now && under column.now u))) }
 {
     for j in 0..column.len() {
         add_meet(alloc, piece, &column[j], kept, f)?;
@@ -100,7 +114,9 @@ pub fn refine_options(
     requires options { AreActions (length columns.now) options.now }
     requires same { All (λ c. All (λ p. length p ≡ length f.now) c.items) columns.now }
     requires strict { MissesAll f.now columns.now options.now }
-    ensures { IfOk result (λ v. All (IsPiece f.now) v.items) }
+    ensures pieces { IfOk result (λ v. All (IsPiece f.now) v.items) }
+    ensures apart { IfOk result (λ v. AllPairs IsApart v.items) }
+    ensures under { IfOk result (λ v. (u : List ℤ) → under v.items u ≡ (at_or_below u f.now && some_covers u columns.now options.now)) }
 {
     let mut kept = Vec::new(alloc);
     for i in 0..options.len() {
@@ -118,7 +134,9 @@ fn narrowed(
 ) -> Result<Vec<Counters>, AllocError>
     requires pieces { All (IsPiece f.now) pieces.now }
     requires same { All (λ p. length p ≡ length f.now) column.now }
-    ensures { IfOk result (λ v. All (IsPiece f.now) v.items) }
+    ensures pieces { IfOk result (λ v. All (IsPiece f.now) v.items) }
+    ensures apart { IfOk result (λ v. AllPairs IsApart v.items) }
+    ensures under { IfOk result (λ v. (u : List ℤ) → under v.items u ≡ (under pieces.now u && under column.now u)) }
 {
     let mut kept = Vec::new(alloc);
     for i in 0..pieces.len() {
@@ -139,7 +157,9 @@ fn refine_class(
     requires failing { failing < length columns.now }
     requires same { All (λ c. All (λ p. length p ≡ length f.now) c.items) columns.now }
     requires strict { Misses f.now (column_at columns.now failing) }
-    ensures { IfOk result (λ v. All (IsPiece f.now) v.items) }
+    ensures pieces { IfOk result (λ v. All (IsPiece f.now) v.items) }
+    ensures apart { IfOk result (λ v. AllPairs IsApart v.items) }
+    ensures under { IfOk result (λ v. (u : List ℤ) → under v.items u ≡ ((at_or_below u f.now && under (column_at columns.now failing) u) && each_covers u columns.now options.now)) }
 {
     let mut pieces = Vec::new(alloc);
     add_first(alloc, f, &columns[failing as usize], &mut pieces)?;
@@ -147,6 +167,21 @@ fn refine_class(
         pieces = narrowed(alloc, &pieces, &columns[options[i] as usize], f)?;
     }
     Ok(pieces)
+}
+
+/// Adds pieces of `f` to a list of maximal ones.
+fn add_all(kept: &mut Vec<Counters>, pieces: Vec<Counters>, f: &Counters) -> Result<(), AllocError>
+    requires pieces { All (IsPiece f.now) pieces.items }
+    requires kept { All (IsPiece f.now) kept.old.items }
+    requires apart { AllPairs IsApart kept.old.items }
+    ensures kept { All (IsPiece f.now) kept.new.items }
+    ensures apart { AllPairs IsApart kept.new.items }
+    ensures under { OnOk result ((u : List ℤ) → under kept.new.items u ≡ (under kept.old.items u || under pieces.items u)) }
+{
+    for piece in pieces {
+        add_maximal(kept, piece, f)?;
+    }
+    Ok(())
 }
 
 /// The maximal vectors below `f` that answer all options of some class; `failing` has for each class an option that `f`
@@ -163,14 +198,15 @@ pub fn refine_classes(
     requires failing { AreActions (length columns.now) failing.now }
     requires same { All (λ c. All (λ p. length p ≡ length f.now) c.items) columns.now }
     requires strict { MissesAll f.now columns.now failing.now }
-    ensures { IfOk result (λ v. All (IsPiece f.now) v.items) }
+    requires options { AreOptions plan.now failing.now }
+    ensures pieces { IfOk result (λ v. All (IsPiece f.now) v.items) }
+    ensures apart { IfOk result (λ v. AllPairs IsApart v.items) }
+    ensures under { IfOk result (λ v. (u : List ℤ) → under v.items u ≡ (at_or_below u f.now && list_any (λ c. each_covers u columns.now c.items) plan.now)) }
 {
     let mut kept = Vec::new(alloc);
     for c in 0..plan.len() {
         let pieces = refine_class(alloc, f, columns, &plan[c], failing[c])?;
-        for piece in pieces {
-            add_maximal(&mut kept, piece, f)?;
-        }
+        add_all(&mut kept, pieces, f)?;
     }
     Ok(kept)
 }

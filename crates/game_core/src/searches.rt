@@ -1,13 +1,13 @@
 //! Whether a player can answer one step from an entry.
 
 ghost use Rattle.std.specs.Prelude.{◌≡◌, ◌<◌, ◌≤◌, ◌+◌, ℕ, List, ℤ, true, length, map, vec_len, IfOk, IfSome, IfNone, IsTrue, OnOk, slice_index_or};
-ghost use Rattle.std.specs.List.{All, list_any};
+ghost use Rattle.std.specs.List.{All, Contains, list_any};
 ghost use Rattle.cpre_step.specs.Refinement.{action_works};
 ghost use Rattle.game_form.specs.Game.{lanes};
 ghost use Rattle.game_form.specs.Vector.{IsVector};
 ghost use Rattle.game_core.specs.Front.{Misses, under};
 ghost use Rattle.game_core.specs.Plan.{AreActions};
-ghost use Rattle.game_core.specs.Columns.{AreColumns, IsColumn, MissesAll, column_at, some_covers, each_covers};
+ghost use Rattle.game_core.specs.Columns.{AreColumns, AreFull, HaveGrown, IsColumn, MissesAll, column_at, some_covers, each_covers};
 
 use crate::fronts::find_cover;
 use antichain_list::Entry;
@@ -27,7 +27,9 @@ fn fill_column(
     requires vectors { All (IsVector g.now) vectors.now }
     requires action { action < length g.now.actions }
     requires column { IsColumn g.now action vectors.now column.old.items }
-    ensures { IsColumn g.now action vectors.now column.new.items }
+    ensures column { IsColumn g.now action vectors.now column.new.items }
+    ensures grown { length column.old.items ≤ length column.new.items }
+    ensures full { OnOk result (length column.new.items ≡ length vectors.now) }
 {
     for j in column.len()..vectors.len() {
         column.push(vectors[j].pre(alloc, g, action)?)?;
@@ -46,7 +48,9 @@ pub fn fill(
     requires vectors { All (IsVector g.now) vectors.now }
     requires options { AreActions (length g.now.actions) options.now }
     requires columns { AreColumns g.now vectors.now columns.old }
-    ensures { AreColumns g.now vectors.now columns.new }
+    ensures columns { AreColumns g.now vectors.now columns.new }
+    ensures grown { HaveGrown columns.old columns.new }
+    ensures full { OnOk result (AreFull vectors.now columns.new options.now) }
 {
     for action in options {
         let column = &mut columns[*action as usize];
@@ -100,6 +104,7 @@ pub fn answer_one(
     ensures columns { AreColumns g.now vectors.now columns.new }
     ensures some { IfOk result (λ o. IfSome o (λ _. list_any (action_works g.now vectors.now f.now) options.now ≡ true)) }
     ensures none { IfOk result (λ o. IfNone o (MissesAll f.now columns.new options.now)) }
+    ensures full { IfOk result (λ o. IfNone o (AreFull vectors.now columns.new options.now)) }
 {
     g.known();
     if let Some(place) = known {
@@ -121,6 +126,7 @@ pub fn answer_each(
     requires options { AreActions (length columns.now) options.now }
     requires room { length options.now ≤ length answers.old }
     ensures some { IfSome result (λ a. (a < length columns.now) × Misses f.now (column_at columns.now a)) }
+    ensures option { IfSome result (Contains options.now) }
     ensures none { IfNone result (each_covers f.now columns.now options.now ≡ true) }
 {
     for i in 0..options.len() {

@@ -8,14 +8,15 @@ ghost use Rattle.cpre_step.specs.Refinement.{answers};
 ghost use Rattle.game_core.specs.Board.{puts};
 ghost use Rattle.game_core.specs.Columns.{AreColumns};
 ghost use Rattle.game_core.specs.Entries.{AreEntries};
-ghost use Rattle.game_core.specs.Front.{IsPiece, extent, under};
+ghost use Rattle.game_core.specs.Front.{extent, under};
 ghost use Rattle.game_core.specs.Known.{HaveAnswers};
 ghost use Rattle.game_core.specs.Plan.{IsPlan};
-ghost use Rattle.game_core.specs.Solved.{IsSettled, IsSolution};
+ghost use Rattle.game_core.specs.Remains.{AreRemains};
+ghost use Rattle.game_core.specs.Solved.{CoversClosed, IsLost, IsSettled, IsSolution};
 
 use crate::commits::put_left;
 use crate::exchanges::{Entries, exchange};
-use crate::fronts::{Note, find_cover, next_entry, no_answers, no_columns, sum_of};
+use crate::fronts::{Note, is_under, next_entry, no_answers, no_columns, sum_of};
 use crate::looks::look;
 use crate::plans::plan;
 use antichain_list::{Downset, ListDownset};
@@ -26,7 +27,7 @@ use std::alloc::{AllocError, Global};
 /// What is known of a game that was solved.
 #[derive(Drop)]
 pub enum Solved {
-    /// The maximal vectors that the player can hold.
+    /// The maximal vectors that the player can hold: each list from whose vectors it can stay in the list is at or below them.
     Held(ListDownset<Counters>),
     /// The initial vector isn't held.
     Lost,
@@ -58,7 +59,7 @@ fn look_at_all(
     requires columns { AreColumns g.now vectors.now columns.old }
     ensures answers { HaveAnswers slots notes.new }
     ensures columns { AreColumns g.now vectors.now columns.new }
-    ensures found { IfOk result (λ o. IfSome o (λ r. (r.place < length vectors.now) × ((f : List ℤ) → f ≡ slice_index_or vectors.now r.place f → All (IsPiece f) r.pieces.items))) }
+    ensures found { IfOk result (λ o. IfSome o (λ r. (r.place < length vectors.now) × ((f : List ℤ) → f ≡ slice_index_or vectors.now r.place f → AreRemains g.now vectors.now f r.pieces.items))) }
     ensures closed { IfOk result (λ o. IfNone o (All (λ f. answers g.now vectors.now f ≡ true) vectors.now)) }
 {
     for place in 0..vectors.len() {
@@ -94,7 +95,7 @@ fn settle(
     requires columns { AreColumns g.now vectors.now columns.old }
     ensures answers { HaveAnswers slots notes.new }
     ensures columns { AreColumns g.now vectors.now columns.new }
-    ensures found { IfOk result (λ o. IfSome o (λ r. (r.place < length vectors.now) × ((f : List ℤ) → f ≡ slice_index_or vectors.now r.place f → All (IsPiece f) r.pieces.items))) }
+    ensures found { IfOk result (λ o. IfSome o (λ r. (r.place < length vectors.now) × ((f : List ℤ) → f ≡ slice_index_or vectors.now r.place f → AreRemains g.now vectors.now f r.pieces.items))) }
     ensures closed { IfOk result (λ o. IfNone o (All (λ f. answers g.now vectors.now f ≡ true) vectors.now)) }
 {
     while let Some(place) = next_entry(pending, notes) {
@@ -130,7 +131,8 @@ fn downset_of(alloc: Global, vectors: Vec<Counters>) -> Result<ListDownset<Count
 
 /// The one entry that every vector is at or below.
 fn open_entries(alloc: Global, g: &Game, slots: usize) -> Result<Entries, AllocError>
-    ensures { IfOk result (λ e. AreEntries g.now slots e.vectors.items e.pending.items e.notes.items) }
+    ensures entries { IfOk result (λ e. AreEntries g.now slots e.vectors.items e.pending.items e.notes.items) }
+    ensures covers { IfOk result (λ e. CoversClosed g.now e.vectors.items) }
 {
     g.known();
     let top = Counters::top(alloc, g)?;
@@ -148,9 +150,10 @@ fn open_entries(alloc: Global, g: &Game, slots: usize) -> Result<Entries, AllocE
 /// Whether no entry is at or above the initial vector, where only that is asked.
 fn is_lost(vectors: &[Counters], initial: &Counters, whole: bool) -> bool
     ensures asked { IsTrue result → whole ≡ false }
+    ensures missed { IsTrue result → under vectors.now initial.now ≡ false }
     ensures covered { result ≡ false → whole ≡ false → under vectors.now initial.now ≡ true }
 {
-    !whole && find_cover(vectors, initial).is_none()
+    !whole && !is_under(vectors, initial)
 }
 
 /// Replaces entries until the player can answer one step from each. Says whether it stopped since the initial vector was lost.
@@ -168,7 +171,8 @@ fn refine_all(
     requires each { length plan.now ≤ slots }
     requires entries { AreEntries g.now slots entries.old.vectors.items entries.old.pending.items entries.old.notes.items }
     requires columns { AreColumns g.now entries.old.vectors.items columns.old }
-    ensures lost { IfOk result (λ b. b ≡ true → whole ≡ false) }
+    requires covers { CoversClosed g.now entries.old.vectors.items }
+    ensures lost { IfOk result (λ b. b ≡ true → IsLost g.now whole) }
     ensures settled { IfOk result (λ b. b ≡ false → IsSettled g.now whole entries.new.vectors.items) }
 {
     let initial = Counters::initial(alloc, g)?;

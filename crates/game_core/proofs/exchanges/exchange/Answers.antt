@@ -1,13 +1,33 @@
-use Rattle.std.proofs.Common.{◌≡◌, List, Vec, sym, subst, vec_len}
+use Rattle.std.proofs.Common.{◌≡◌, ◌∙◌, ◌||◌, List, Vec, ap, sym, subst, vec_len}
 use Rattle.std.specs.Prelude.{ℤ}
 use Rattle.std.specs.declared.alloc.Global.{Global}
 use Rattle.game_core.specs.Columns.{AreColumns}
 use Rattle.std.proofs.lemmas.Result.{on_ok_weaker}
+use Rattle.game_core.specs.Front.{under}
+use Rattle.game_core.proofs.Greatest.{exchange_keeps, rest_above}
 use Rattle.game_core.proofs.Replacements.{entries_removed}
 use Rattle.game_core.proofs.exchanges.exchange.Goals as goal
 
 pub put_pieces-requires-clause-pieces : goal.put_pieces-requires-clause-pieces
-put_pieces-requires-clause-pieces c = c.requires.pieces c.take_entry-f.result.0 c.take_entry-f.ensures.entry
+put_pieces-requires-clause-pieces c = (c.requires.pieces c.take_entry-f.result.0 c.take_entry-f.ensures.entry).below
+
+pub put_pieces-requires-clause-apart : goal.put_pieces-requires-clause-apart
+put_pieces-requires-clause-apart c = (c.requires.pieces c.take_entry-f.result.0 c.take_entry-f.ensures.entry).apart
+
+pub put_pieces-requires-clause-above : goal.put_pieces-requires-clause-above
+put_pieces-requires-clause-above c =
+    rw c.take_entry-f.ensures.vectors
+    (rest_above c.args.entries.now.vectors.items c.args.place c.take_entry-f.result.0 c.requires.place c.take_entry-f.ensures.entry c.requires.entries.apart)
+
+pub returns-clause-keeps : goal.returns-clause-keeps
+returns-clause-keeps c =
+    let vs : List (List ℤ) = c.args.entries.now.vectors.items in
+    let f : List ℤ = c.take_entry-f.result.0 in
+    on_ok_weaker c.put_pieces.result
+    (λ made. exchange_keeps c.args.g.now vs c.put_pieces.new.entries.vectors.items c.args.pieces.items c.args.place f c.requires.place c.take_entry-f.ensures.entry
+    (c.requires.pieces f c.take_entry-f.ensures.entry)
+    (λ u. made u ∙ ap (λ (rest : List (List ℤ)). under rest u || under c.args.pieces.items u) c.take_entry-f.ensures.vectors))
+    c.put_pieces.ensures.whole
 
 pub put_pieces-requires-clause-entries : goal.put_pieces-requires-clause-entries
 put_pieces-requires-clause-entries c =

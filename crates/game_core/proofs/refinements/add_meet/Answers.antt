@@ -1,6 +1,9 @@
-use Rattle.std.proofs.Common.{◌≡◌, true, sym, subst, List}
+use Rattle.std.proofs.Common.{◌≡◌, ◌∙◌, ◌||◌, true, ap, sym, subst, List}
 use Rattle.std.specs.Prelude.{ℤ}
 use Rattle.counter_vec.specs.Counters.{at_or_below}
+use Rattle.std.proofs.lemmas.Result.{on_ok_weaker}
+use Rattle.cpre_step.proofs.Left.{below-met}
+use Rattle.game_core.specs.Front.{under}
 use Rattle.game_core.proofs.Orders.{met_left, met_right}
 use Rattle.game_core.proofs.Pieces.{meet_piece}
 use Rattle.game_core.proofs.refinements.add_meet.Goals as goal
@@ -13,3 +16,11 @@ add_maximal-requires-clause-piece c =
     (c.requires.strict c.in_ok-meet.meet)
     (subst P (sym c.in_ok-meet.ensures) (met_left c.args.v.now c.args.p.now c.requires.same))
     (subst Q (sym c.in_ok-meet.ensures) (met_right c.args.v.now c.args.p.now c.requires.same))
+
+pub returns-clause-under : goal.returns-clause-under
+returns-clause-under c =
+    on_ok_weaker c.add_maximal.result
+    (λ h u. h u
+    ∙ ap (λ (m : List ℤ). under c.args.kept.now.items u || at_or_below u m) c.in_ok-meet.ensures
+    ∙ ap (λ b. under c.args.kept.now.items u || b) (below-met u c.args.v.now c.args.p.now c.requires.same))
+    c.add_maximal.ensures.under

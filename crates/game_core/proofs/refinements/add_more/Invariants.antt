@@ -1,6 +1,11 @@
-use Rattle.std.specs.List.{All}
-use Rattle.game_core.specs.Front.{IsPiece}
+use Rattle.std.proofs.Common.{◌≡◌, ◌&&◌, ◌||◌, List, take}
+use Rattle.std.specs.Prelude.{ℤ}
+use Rattle.std.specs.List.{All, AllPairs}
+use Rattle.counter_vec.specs.Counters.{at_or_below}
+use Rattle.game_core.specs.Front.{IsApart, IsPiece, under}
 use Rattle.game_core.proofs.refinements.add_more.Given as goal
 
 abbrev pub invariant-loop-j : goal.invariant-loop-j
-invariant-loop-j l = All (IsPiece l.f) l.kept.items
+invariant-loop-j l =
+    All (IsPiece l.f) l.kept.items × AllPairs IsApart l.kept.items
+    × ((u : List ℤ) → under l.kept.items u ≡ (under l.initial.kept.items u || (at_or_below u l.piece && under (take l.j l.column) u)))
