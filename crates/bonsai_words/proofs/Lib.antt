@@ -1,0 +1,4 @@
+pub mod WordLemmas
+pub mod RuleLemmas
+pub mod StepLemmas
+pub mod ReadLemmas
