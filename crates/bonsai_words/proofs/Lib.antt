@@ -2,3 +2,5 @@ pub mod WordLemmas
 pub mod RuleLemmas
 pub mod StepLemmas
 pub mod ReadLemmas
+pub mod TakeLemmas
+pub mod SortLemmas

@@ -8,6 +8,7 @@ use Rattle.clap.specs.Faults.{long_fault, step_fault, use_fault}
 use Rattle.clap.specs.declared.error.kind.ErrorKind.{ErrorKind}
 use Rattle.clap.specs.declared.error.kind.ErrorKind.TheVariants as kind
 use Rattle.bonsai_words.specs.Reading.{Text, Given, Table, Kind, plain, dashes, named, unknown, kind_of, option_named, has, is_once, given, paired, placed, option_met, kind_step, value_step, between, awaits, ended}
+use Rattle.bonsai_words.specs.Parsing.{is_plain, is_loose_value}
 use Rattle.bonsai_words.proofs.WordLemmas.{Seen, seen}
 use Rattle.bonsai_words.proofs.RuleLemmas.{valued_rule, flagged_rule, rules_of, shape_for, rule_found, is_sound, IsValued, place_valued, option_valued, place_low, same_text}
 use Rattle.bonsai_words.proofs.StepLemmas.{row_for, rows_for, rows_more, has_rows, used_valued, valued_again, used_flag, flag_again, Pending, resting, at, checked, fault_at, out, full_fault, full_again, empty_fault, placed_out, value_turn, ended_turn, turn, refused_turn, plain_fault, plain_met, dashes_fault, dashes_met, named_fault, named_met, unknown_fault}
@@ -16,16 +17,6 @@ use Rattle.bonsai_words.proofs.StepLemmas.{row_for, rows_for, rows_more, has_row
 abbrev pub AreTexts : List Text → Type 0
 AreTexts [] = ⊤
 AreTexts (word ∷ words) = IsUtf8 word × AreTexts words
-
-abbrev pub is_plain : Kind → Bool
-is_plain plain = true
-is_plain dashes = false
-is_plain (named a v) = false
-is_plain unknown = false
-
--- `clap` takes any plain word as a value
-abbrev pub is_loose_value : Text → Bool
-is_loose_value word = is_plain (kind_of word)
 
 -- the rows of what is given behind what was given, where each name stands once
 abbrev pub finish : Given → Option Given → Option (List Row)

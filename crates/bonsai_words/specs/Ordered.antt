@@ -1,5 +1,5 @@
 -- Which order words name.
-use Rattle.std.specs.Prelude.{ℕ, ◌==◌, ◌&&◌, ◌||◌, Bool, true, false, not, List, [], ◌∷◌, map, length}
+use Rattle.std.specs.Prelude.{◌≡◌, Result, Ok, Err, ℕ, ◌==◌, ◌&&◌, ◌||◌, Bool, true, false, not, List, [], ◌∷◌, map, length}
 use Rattle.std.specs.Prelude.{Option, Some, None, codes, if◌then◌else◌, nat_le, option_and_then}
 use Rattle.std.specs.Prelude.{string_bytes}
 use Rattle.std.specs.List.{list_all, Contains}
@@ -8,6 +8,8 @@ use Rattle.std.specs.Str.Parse.{digits_value}
 use Rattle.word_core.specs.declared.names.Player.{Player}
 use Rattle.word_core.specs.declared.names.Player.TheVariants.{System, Environment}
 use Rattle.bonsai_words.specs.declared.orders.Order.{Order}
+use Rattle.bonsai_words.specs.declared.orders.WordsError.{WordsError}
+use Rattle.bonsai_words.specs.declared.orders.WordsError.TheVariants.{Usage}
 use Rattle.bonsai_words.specs.declared.orders.Order.TheVariants.{Synth, Downset, Check, Eval, Gen}
 use Rattle.bonsai_words.specs.Reading.{Text, Given, Table, reading, value_of, has}
 
@@ -71,62 +73,66 @@ player_in (Some text) = if bytes_eq text (codes "system") then Some System
 abbrev pub with : {A B : Type 0} → Option A → (A → Option B) → Option B
 with value make = option_and_then make value
 
-abbrev pub as_written : Text × Bool
-as_written = (codes "as-written", false)
+abbrev pub written_flag : Text × Bool
+written_flag = (codes "as-written", false)
+
+-- the values of a command's plain words and options, by name
+abbrev pub Look : Type 0
+Look = Text → Option Text
 
 abbrev pub synth_table : Table
 synth_table = record {
   places = codes "name" ∷ [];
   options = (codes "bound", true) ∷ (codes "first", true) ∷ (codes "step", true)
-      ∷ (codes "workers", true) ∷ as_written ∷ [];
+      ∷ (codes "workers", true) ∷ written_flag ∷ [];
 }
 
-abbrev pub synth_of : Given → Option Asked
-synth_of g =
-    with (number_or (Some 8) 0 10000 (value_of (codes "bound") g)) (λ last.
-    with (number_or (Some 0) 0 10000 (value_of (codes "first") g)) (λ first.
-    with (number_or (Some 1) 1 10000 (value_of (codes "step") g)) (λ step.
-    with (number_or (Some 1) 1 64 (value_of (codes "workers") g)) (λ workers.
-    if nat_le first last then with (name_in (value_of (codes "name") g)) (λ name.
-    Some (synth name (first, step, last) workers (has (codes "as-written") g))) else None))))
+abbrev pub synth_of : Look → Bool → Option Asked
+synth_of look as_written =
+    with (number_or (Some 8) 0 10000 (look (codes "bound"))) (λ last.
+    with (number_or (Some 0) 0 10000 (look (codes "first"))) (λ first.
+    with (number_or (Some 1) 1 10000 (look (codes "step"))) (λ step.
+    with (number_or (Some 1) 1 64 (look (codes "workers"))) (λ workers.
+    if nat_le first last then with (name_in (look (codes "name"))) (λ name.
+    Some (synth name (first, step, last) workers as_written)) else None))))
 
 abbrev pub downset_table : Table
 downset_table = record {
   places = codes "name" ∷ [];
-  options = (codes "player", true) ∷ (codes "bound", true) ∷ as_written ∷ [];
+  options = (codes "player", true) ∷ (codes "bound", true) ∷ written_flag ∷ [];
 }
 
-abbrev pub downset_of : Given → Option Asked
-downset_of g =
-    with (player_in (value_of (codes "player") g)) (λ player.
-    with (number_or None 0 10000 (value_of (codes "bound") g)) (λ bound.
-    with (name_in (value_of (codes "name") g)) (λ name.
-    Some (downset name player bound (has (codes "as-written") g)))))
+abbrev pub downset_of : Look → Bool → Option Asked
+downset_of look as_written =
+    with (player_in (look (codes "player"))) (λ player.
+    with (number_or None 0 10000 (look (codes "bound"))) (λ bound.
+    with (name_in (look (codes "name"))) (λ name.
+    Some (downset name player bound as_written))))
 
 abbrev pub check_table : Table
 check_table = record {
   places = codes "name" ∷ codes "second" ∷ [];
-  options = (codes "bound", true) ∷ as_written ∷ [];
+  options = (codes "bound", true) ∷ written_flag ∷ [];
 }
 
-abbrev pub check_of : Given → Option Asked
-check_of g =
-    with (number_or None 0 10000 (value_of (codes "bound") g)) (λ bound.
-    with (name_in (value_of (codes "name") g)) (λ name.
-    with (name_in (value_of (codes "second") g)) (λ machine.
-    Some (check name machine bound (has (codes "as-written") g)))))
+abbrev pub check_of : Look → Bool → Option Asked
+check_of look as_written =
+    with (number_or None 0 10000 (look (codes "bound"))) (λ bound.
+    with (name_in (look (codes "name"))) (λ name.
+    with (name_in (look (codes "second"))) (λ machine.
+    Some (check name machine bound as_written))))
 
 abbrev pub eval_table : Table
 eval_table = record {
   places = codes "name" ∷ codes "second" ∷ [];
-  options = as_written ∷ [];
+  options = written_flag ∷ [];
 }
 
-abbrev pub eval_of : Given → Option Asked
-eval_of g =
-    with (name_in (value_of (codes "name") g)) (λ name.
-    with (name_in (value_of (codes "second") g)) (λ lasso.
-    Some (eval name lasso (has (codes "as-written") g))))
+abbrev pub eval_of : Look → Bool → Option Asked
+eval_of look as_written =
+    with (name_in (look (codes "name"))) (λ name.
+    with (name_in (look (codes "second"))) (λ lasso.
+    Some (eval name lasso as_written)))
 
 abbrev pub gen_table : Table
 gen_table = record {
@@ -134,17 +140,18 @@ gen_table = record {
   options = (codes "workers", true) ∷ [];
 }
 
-abbrev pub gen_of : Given → Option Asked
-gen_of g =
-    with (number_or None 1 8 (value_of (codes "clients") g)) (λ clients.
-    with (number_or (Some 1) 1 64 (value_of (codes "workers") g)) (λ workers.
+abbrev pub gen_of : Look → Bool → Option Asked
+gen_of look as_written =
+    with (number_or None 1 8 (look (codes "clients"))) (λ clients.
+    with (number_or (Some 1) 1 64 (look (codes "workers"))) (λ workers.
     Some (gen clients workers)))
 
 -- ---- orders
 
 -- what a command makes of the words behind it
-abbrev pub ordered_by : Table → (Given → Option Asked) → List Text → Option Asked
-ordered_by t make words = option_and_then make (reading t words)
+abbrev pub ordered_by : Table → (Look → Bool → Option Asked) → List Text → Option Asked
+ordered_by t make words =
+    with (reading t words) (λ g. make (λ name. value_of name g) (has (codes "as-written") g))
 
 -- the order that the words behind a command name
 abbrev pub ordered_behind : Text → List Text → Option Asked
@@ -160,3 +167,8 @@ ordered_behind command words =
 unfoldable pub ordered : List Text → Option Asked
 ordered [] = None
 ordered (command ∷ words) = ordered_behind command words
+
+-- a reader's answer: the order that is named, or `Usage` only where none is
+abbrev pub Answers : Option Asked → Result Order WordsError → Type 0
+Answers named (Ok order) = named ≡ Some (asked order)
+Answers named (Err e) = e ≡ Usage → named ≡ None
