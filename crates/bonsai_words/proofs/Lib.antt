@@ -4,3 +4,5 @@ pub mod StepLemmas
 pub mod ReadLemmas
 pub mod TakeLemmas
 pub mod SortLemmas
+pub mod OrderLemmas
+pub mod NumberLemmas

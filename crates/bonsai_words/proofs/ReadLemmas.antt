@@ -265,7 +265,7 @@ module _ (name : Text) (t : Table) where
   all_reads : is_sound t ≡ true → (words : List Text) → AreTexts words → ReadsAny words × ReadsValue words
   all_reads sound [] u = (
     (λ n rows pending before fine.
-    ap₂ (λ (f : Kinds) (rs : List Row). checked f (Some rs)) fine.0 fine.1 ∙ ap (λ (g : Given). Some (rows_for g)) (sym (append-nil before))),
+        ap₂ (λ (f : Kinds) (rs : List Row). checked f (Some rs)) fine.0 fine.1 ∙ ap (λ (g : Given). Some (rows_for g)) (sym (append-nil before))),
     (λ n id before valued. ap (λ f. checked f (Some (settled_rows (rules_of t) (Some (id, [])) (rows_for before)))) (empty_fault t id (rows_for before) valued)),
   )
   all_reads sound (word ∷ rest) u =

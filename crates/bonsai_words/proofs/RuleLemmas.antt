@@ -210,7 +210,7 @@ pub option_valued : (t : Table) (name n : Text) → is_sound t ≡ true → opti
 option_valued t name n sound e =
     let is : n ≡ name = option_is t name (n, true) e in
     let free : list_any (λ p. bytes_eq p n) t.places ≡ false =
-        not-true _ (found_holds (λ (p : Text × Bool). bytes_eq p.0 name) (λ (o : Text × Bool). not (list_any (λ p. bytes_eq p o.0) t.places)) t.options (n, true) (and_parts _ _ sound).0 e) in
+    not-true _ (found_holds (λ (p : Text × Bool). bytes_eq p.0 name) (λ (o : Text × Bool). not (list_any (λ p. bytes_eq p o.0) t.places)) t.options (n, true) (and_parts _ _ sound).0 e) in
     let found : option_named t n ≡ Some (n, true) = ap (option_named t) is ∙ e in
     (None, Some n, id_skips 1 t.places (built_options t.options) n free ∙ id_options t.options n ∙ ap rule_found found)
 

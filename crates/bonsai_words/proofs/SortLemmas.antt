@@ -192,17 +192,20 @@ module _ (name : Text) (t : Table) (sound : is_sound t ≡ true) (is_built : bui
       let end = (settled (rules_of t) (walk (rules_of t) [] nothing_held behind).held).rows in
       let none : built_fault (built_app name t) nothing_held behind ≡ [] = sym (fault_is words) ∙ taken.0 in
       let is : Some end ≡ finish [] (given is_loose_value t behind between 0) =
-          sym (ap (λ ks. checked ks (Some end)) none) ∙ built_out name t behind ∙ words_read name t sound behind texts in
+      sym (ap (λ ks. checked ks (Some end)) none) ∙ built_out name t behind ∙ words_read name t sound behind texts in
       let f = finish_some t behind (given is_loose_value t behind between 0) end refl is in
       let g = f.0 in
       let rows : rows_of (found_of m) ≡ fold with_default (rows_for g) (rules_of t) =
-          taken.1 ∙ matches_are words ∙ ap (λ rs. fold with_default rs (rules_of t)) f.3 in
-      (g, f.2, record {
-        values = values_of t g m rows;
-        flags = λ id h.
-            let free = not-true _ (free_flag t.options (λ (o : Text × Bool). not (list_any (λ p. bytes_eq p o.0) t.places)) id (id, false) (and_parts _ _ sound).0 h) in
-            flags_of t g m rows id h (subst (SaysTrue id) f.1 (flags_true is_loose_value t id h free behind between 0 tt));
-      })
+      taken.1 ∙ matches_are words ∙ ap (λ rs. fold with_default rs (rules_of t)) f.3 in (
+        g,
+        f.2,
+        record {
+          values = values_of t g m rows;
+          flags = λ id h.
+              let free = not-true _ (free_flag t.options (λ (o : Text × Bool). not (list_any (λ p. bytes_eq p o.0) t.places)) id (id, false) (and_parts _ _ sound).0 h) in
+              flags_of t g m rows id h (subst (SaysTrue id) f.1 (flags_true is_loose_value t id h free behind between 0 tt));
+        },
+      )
 
   pub sorted_err : (words : List Text) → AreTexts (drop 1 words) → (fault_of (app_for name t) words ≡ [] → ⊥) → loosely t (drop 1 words) ≡ None
   sorted_err words texts bad = go (built_fault (built_app name t) nothing_held (drop 1 words)) refl
@@ -217,12 +220,12 @@ module _ (name : Text) (t : Table) (sound : is_sound t ≡ true) (is_built : bui
 -- ---- the word `-` is no value
 
 -- a pair whose value is `-`, of an option
-abbrev HasDash : Table → Given → Type 0
+abbrev pub HasDash : Table → Given → Type 0
 HasDash t [] = ⊥
 HasDash t (p ∷ g) = ((p.1 ≡ 45 ∷ []) × (option_named t p.0 ≡ Some (p.0, true))) ⊎ HasDash t g
 
 -- the two readings agree, or the second has such a pair and the first is none
-abbrev Strays : Table → Option Given → Option Given → Type 0
+abbrev pub Strays : Table → Option Given → Option Given → Type 0
 Strays t a b = (a ≡ b) ⊎ ((a ≡ None) × ((g : Given) × (b ≡ Some g) × HasDash t g))
 
 stray_paired : (t : Table) (name v : Text) (a b : Option Given) → Strays t a b → Strays t (paired name v a) (paired name v b)
@@ -233,7 +236,7 @@ stray_placed : (t : Table) (p : Option Text) (word : Text) (a b : Option Given) 
 stray_placed t None word a b s = inl refl
 stray_placed t (Some p) word a b s = stray_paired t p word a b s
 
-abbrev IsNamedMode : Table → Mode → Type 0
+abbrev pub IsNamedMode : Table → Mode → Type 0
 IsNamedMode t between = ⊤
 IsNamedMode t (awaits name) = option_named t name ≡ Some (name, true)
 IsNamedMode t ended = ⊤
@@ -254,7 +257,7 @@ module _ (t : Table) where
       go (Some (n, false)) e (Some v) = inl refl
       go (Some (n, false)) e None = stray_paired t n (codes "true") (f between) (g between) (s between tt)
 
-  strays : (words : List Text) (m : Mode) (n : ℕ) → IsNamedMode t m → Strays t (given is_value t words m n) (given is_loose_value t words m n)
+  pub strays : (words : List Text) (m : Mode) (n : ℕ) → IsNamedMode t m → Strays t (given is_value t words m n) (given is_loose_value t words m n)
   strays [] m n i = inl refl
   strays (word ∷ words) ended n i = stray_placed t (slice_get t.places n) word _ _ (strays words ended (suc n) tt)
   strays (word ∷ words) (awaits name) n i = go (is_value word) refl (is_loose_value word) refl (strays words between n tt)

@@ -113,7 +113,7 @@ level_out : (name : Text) (t : Table) (words : List Text)
 level_out name t words =
     let end = (walk (rules_of t) [] nothing_held words).held in
     let tail : or_else (defaults_fault (settled (rules_of t) end).rows (rules_of t)) (check_fault (shape_for name t) (finished (rules_of t) end) false) ≡ [] =
-        ap₂ or_else (defaults_places 1 t.places t.options (settled (rules_of t) end).rows) (none_missed name t (finished (rules_of t) end)) in
+    ap₂ or_else (defaults_places 1 t.places t.options (settled (rules_of t) end).rows) (none_missed name t (finished (rules_of t) end)) in
     ap (λ ks. checked (or_else (walk_fault (shape_for name t) [] (walk_from nothing_held) words) (or_else (settle_fault (rules_of t) false end) ks)) (Some (settled (rules_of t) end).rows)) tail
     ∙ ap (λ ks. checked (or_else (walk_fault (shape_for name t) [] (walk_from nothing_held) words) ks) (Some (settled (rules_of t) end).rows)) (or_nil (settle_fault (rules_of t) false end))
     ∙ walk_out (shape_for name t) (walk_from nothing_held) words
