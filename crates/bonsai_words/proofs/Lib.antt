@@ -6,3 +6,4 @@ pub mod TakeLemmas
 pub mod SortLemmas
 pub mod OrderLemmas
 pub mod NumberLemmas
+pub mod NameLemmas

@@ -50,7 +50,7 @@ number_some text least most n b numeral is low high =
     let same = no_plus text b.0 in
     let value : n ≡ digits_value 10 text = is ∙ ap (digits_value 10) same in
     let test : (is_number text && (nat_le least (digits_value 10 text) && nat_le (digits_value 10 text) most)) ≡ true =
-        and_from _ _ (number_is text b (subst (IsNumeral 10) same numeral)) (and_from _ _ (le-leb least (digits_value 10 text) (omega arith)) (le-leb (digits_value 10 text) most (omega arith))) in
+    and_from _ _ (number_is text b (subst (IsNumeral 10) same numeral)) (and_from _ _ (le-leb least (digits_value 10 text) (omega arith)) (le-leb (digits_value 10 text) most (omega arith))) in
     ap Some value ∙ sym (ap (λ t. cond t (Some (digits_value 10 text)) None) test)
 
 pub number_none : (text : List ℕ) (least most : ℕ) → (get_or text 0 0 ≡ 43 → ⊥) → most < 2 ^ 32
@@ -60,8 +60,9 @@ number_none text least most plus fits bad = go (is_number text && (nat_le least 
   where
     go : (b : Bool) → (is_number text && (nat_le least (digits_value 10 text) && nat_le (digits_value 10 text) most)) ≡ b → None ≡ cond b (Some (digits_value 10 text)) None
     go true e =
-        let p = and_parts _ _ e in
-        let high : digits_value 10 text ≤ most = leb-true (digits_value 10 text) most (and_parts _ _ p.1).1 in
+        let p : (is_number text ≡ true) × ((nat_le least (digits_value 10 text) && nat_le (digits_value 10 text) most) ≡ true) = and_parts _ _ e in
+        let q : (nat_le least (digits_value 10 text) ≡ true) × (nat_le (digits_value 10 text) most ≡ true) = and_parts _ _ p.1 in
+        let high : digits_value 10 text ≤ most = leb-true (digits_value 10 text) most q.1 in
         let same = sym (no_plus text plus) in
         let low : digits_value 10 text < 2 ^ 32 = omega arith in
         absurd (bad (subst (IsNumeral 10) same (numeral_from text p.0), subst (λ t. digits_value 10 t < 2 ^ 32) same low))

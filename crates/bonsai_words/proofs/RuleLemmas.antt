@@ -222,5 +222,6 @@ index_low (y ∷ ys) (suc n) x e = let h = index_low ys n x e in omega arith
 pub place_low : (t : Table) (n : ℕ) (p : Text) → is_sound t ≡ true → slice_get t.places n ≡ Some p → n < 10
 place_low t n p sound e =
     let a : n < length t.places = index_low t.places n p e in
-    let b : length t.places < 10 = ltb-true (length t.places) 10 (and_parts _ _ sound).1 in
+    let parts : (list_all (λ o. not (list_any (λ p. bytes_eq p o.0) t.places)) t.options ≡ true) × (nat_lt (length t.places) 10 ≡ true) = and_parts _ _ sound in
+    let b : length t.places < 10 = ltb-true (length t.places) 10 parts.1 in
     omega arith

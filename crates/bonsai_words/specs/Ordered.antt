@@ -29,14 +29,6 @@ asked (Check name machine bound as_written) =
 asked (Eval name lasso as_written) = eval (string_bytes name) (string_bytes lasso) as_written
 asked (Gen clients workers) = gen clients workers
 
--- the names of texts
-abbrev pub names_of : Asked → List Text
-names_of (synth name bounds workers as_written) = name ∷ []
-names_of (downset name player bound as_written) = name ∷ []
-names_of (check name machine bound as_written) = name ∷ machine ∷ []
-names_of (eval name lasso as_written) = name ∷ lasso ∷ []
-names_of (gen clients workers) = []
-
 -- ---- values
 
 abbrev pub is_digit : ℕ → Bool

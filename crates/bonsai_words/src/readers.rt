@@ -2,7 +2,8 @@
 
 ghost use Rattle.std.specs.Prelude.{◌≡◌, ◌<◌, ◌≤◌, IfOk, IfSome, true, map, drop, string_bytes};
 ghost use Rattle.clap.specs.Words.{first_value, found_of};
-ghost use Rattle.bonsai_words.specs.Order.{IsInRange};
+ghost use Rattle.bonsai_words.specs.Order.{IsInRange, names_of};
+ghost use Rattle.std.specs.List.{All, Contains};
 ghost use Rattle.bonsai_words.specs.Ordered.{Answers, ordered, ordered_by, synth_table, synth_of};
 ghost use Rattle.bonsai_words.specs.Ordered.{downset_table, downset_of, check_table, check_of};
 ghost use Rattle.bonsai_words.specs.Ordered.{eval_table, eval_of, gen_table, gen_of};
@@ -30,6 +31,8 @@ const DEFAULT_BOUND: u32 = 8;
 pub fn read_words(alloc: Global, words: &[String]) -> Result<Order, WordsError>
     ensures in_range { IfOk result IsInRange }
     ensures exact { Answers (ordered (map string_bytes words.now)) result }
+    ensures names { IfOk result (λ order. All (Contains (map string_bytes words.now))
+        (names_of order)) }
 {
     let Some(command) = words.first() else {
         return Err(WordsError::Usage);
