@@ -1,17 +1,16 @@
 -- The names of an order are words.
-use Rattle.std.proofs.Common.{◌≡◌, ◌∙◌, ◌<◌, ◌==◌, ◌||◌, ◌+◌, ℕ, zero, suc, Bool, true, false, cond, refl, sym, ap, subst, arith, List, [], ◌∷◌, ◌++◌, length, Option, Some, None, Ok, Err, Result, IfOk, codes}
+use Rattle.std.proofs.Common.{◌≡◌, ◌∙◌, ◌==◌, ℕ, zero, suc, Bool, true, false, cond, refl, sym, ap, subst, arith, List, [], ◌∷◌, length, Option, Some, None, Ok, Err, Result, IfOk, codes}
 use Rattle.std.specs.Prelude.{find, option_map, option_and_then, slice_get, IfSome, nat_le, ⊤}
-use Rattle.std.specs.List.{All, Contains, list_any, slice_index_or}
+use Rattle.std.specs.List.{All, Contains, list_any}
 use Rattle.std.specs.Str.{bytes_eq}
 use Rattle.std.proofs.lemmas.Bool.{both_ways, or_parts}
-use Rattle.std.proofs.lemmas.Slice.Eq.{bytes_eq-Decides}
 use Rattle.bonsai_words.specs.declared.orders.Order.{Order}
 use Rattle.bonsai_words.specs.declared.orders.Order.TheVariants.{Synth, Downset, Check, Eval, Gen}
 use Rattle.bonsai_words.specs.declared.orders.WordsError.{WordsError}
 use Rattle.word_core.specs.declared.names.Player.{Player}
 use Rattle.bonsai_words.specs.Order.{names_of}
 use Rattle.bonsai_words.specs.Reading.{Text, Given, Table, Kind, plain, dashes, named, unknown, kind_of, given, is_value, Mode, between, awaits, ended, paired, placed, option_met, kind_step, value_step, has, is_once, once, reading, option_named, value_of}
-use Rattle.bonsai_words.specs.Ordered.{Look, Asked, synth, downset, check, eval, gen, asked, Answers, name_in, number_or, player_in, ordered, ordered_behind, ordered_by, synth_table, synth_of, downset_table, downset_of, check_table, check_of, eval_table, eval_of, gen_table, gen_of}
+use Rattle.bonsai_words.specs.Ordered.{Look, Asked, synth, downset, check, eval, gen, asked, Answers, name_in, number_or, player_in, ordered, ordered_by, synth_table, synth_of, downset_table, downset_of, check_table, check_of, eval_table, eval_of, gen_table, gen_of}
 
 -- ---- a word of the rest is a word
 

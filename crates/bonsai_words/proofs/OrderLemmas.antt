@@ -1,8 +1,7 @@
 -- The order of a command, from what `clap` gives.
-use Rattle.std.proofs.Common.{◌≡◌, ◌∙◌, ◌⊎◌, inl, inr, ◌==◌, ℕ, zero, suc, Bool, true, false, cond, not, ◌&&◌, ◌||◌, refl, sym, ap, ap₂, subst, List, [], ◌∷◌, ◌++◌, Option, Some, None, Ok, Err, Result, codes, drop, map, Global, String, string_bytes}
-use Rattle.std.specs.Prelude.{find, option_map, option_and_then, slice_get, IsErrAnd, ⊤}
-use Rattle.std.specs.List.{list_any}
-use Rattle.std.specs.Str.{bytes_eq, IsUtf8}
+use Rattle.std.proofs.Common.{◌≡◌, ◌∙◌, ◌⊎◌, inl, inr, Bool, true, false, cond, ◌||◌, refl, sym, ap, subst, List, [], ◌∷◌, ◌++◌, Option, Some, None, Ok, Err, Result, codes, drop, map, Global, String, string_bytes}
+use Rattle.std.specs.Prelude.{find, option_map, option_and_then, slice_get, IsErrAnd}
+use Rattle.std.specs.Str.{bytes_eq}
 use Rattle.std.proofs.lemmas.Bool.{both_ways, and_parts, not-true, or_parts, false_from_ne_true}
 use Rattle.std.proofs.lemmas.Slice.Eq.{bytes_eq-Decides}
 use Rattle.std.proofs.lemmas.Str.{IsUtf8-string_bytes}
@@ -12,9 +11,9 @@ use Rattle.clap.specs.declared.parser.matches.ArgMatches.{ArgMatches}
 use Rattle.bonsai_words.specs.declared.orders.Order.{Order}
 use Rattle.bonsai_words.specs.declared.orders.WordsError.{WordsError}
 use Rattle.bonsai_words.specs.declared.orders.WordsError.TheVariants.{Usage}
-use Rattle.bonsai_words.specs.Reading.{Text, Given, Table, given, between, has, is_value, is_once, once, reading, option_named, value_of}
-use Rattle.bonsai_words.specs.Parsing.{app_for, is_loose_value, loosely, is_flag, Gives, IsSorted, IsTaken}
-use Rattle.bonsai_words.specs.Ordered.{Look, Asked, Answers, ordered, ordered_behind, ordered_by, with, number_or, name_in, player_in, synth_table, synth_of, downset_table, downset_of, check_table, check_of, eval_table, eval_of, gen_table, gen_of}
+use Rattle.bonsai_words.specs.Reading.{Text, Given, Table, between, has, is_once, once, option_named, value_of}
+use Rattle.bonsai_words.specs.Parsing.{app_for, loosely, is_flag, Gives, IsSorted, IsTaken}
+use Rattle.bonsai_words.specs.Ordered.{Look, Asked, Answers, ordered, ordered_behind, ordered_by, number_or, player_in, synth_table, synth_of, downset_table, downset_of, check_table, check_of, eval_table, eval_of, gen_table, gen_of}
 use Rattle.bonsai_words.proofs.RuleLemmas.{is_sound, same_text}
 use Rattle.bonsai_words.proofs.ReadLemmas.{AreTexts}
 use Rattle.bonsai_words.proofs.TakeLemmas.{built_app}

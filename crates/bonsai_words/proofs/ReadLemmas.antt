@@ -1,6 +1,6 @@
 -- `clap` takes the words of a table's command where a reading gives something, with these rows.
-use Rattle.std.proofs.Common.{◌≡◌, ◌∙◌, ◌<◌, ◌≤◌, ◌+◌, ◌==◌, ℕ, zero, suc, Bool, true, false, cond, not, ◌&&◌, ◌||◌, refl, sym, ap, ap₂, subst, arith, List, [], ◌∷◌, ◌++◌, length, Option, Some, None, codes, append-nil, append_assoc}
-use Rattle.std.specs.Prelude.{option_map, option_and_then, slice_get, ⊤}
+use Rattle.std.proofs.Common.{◌≡◌, ◌∙◌, ◌<◌, ℕ, suc, Bool, true, false, cond, refl, sym, ap, ap₂, List, [], ◌∷◌, ◌++◌, Option, Some, None, codes, append-nil, append_assoc}
+use Rattle.std.specs.Prelude.{slice_get, ⊤}
 use Rattle.std.specs.Str.{IsUtf8}
 use Rattle.clap.specs.Kinds.{Kinds, or_else}
 use Rattle.clap.specs.Walk.{Held, Row, Rule, Step, Waiting, idle, option, next, trailing, value, after_flag, after_step, long_met, option_word, plain_word, pushed, settled, settled_rows, used}

@@ -1,10 +1,10 @@
 -- From `clap`'s answer to what is given, and from what `clap` takes to what may be taken.
-use Rattle.std.proofs.Common.{◌≡◌, ◌∙◌, ◌⊎◌, inl, inr, ◌<◌, ◌≤◌, ◌+◌, ◌==◌, ℕ, zero, suc, Bool, true, false, cond, not, ◌&&◌, ◌||◌, refl, sym, ap, ap₂, subst, arith, List, [], ◌∷◌, ◌++◌, length, Option, Some, None, Ok, Err, Result, codes, append-nil, append_assoc, drop, map}
+use Rattle.std.proofs.Common.{◌≡◌, ◌∙◌, ◌⊎◌, inl, inr, ℕ, zero, suc, Bool, true, false, cond, not, ◌&&◌, ◌||◌, refl, sym, ap, subst, List, [], ◌∷◌, Option, Some, None, Ok, codes, drop}
 use Rattle.std.specs.Prelude.{find, fold, option_map, option_and_then, slice_get, is_some, ⊤}
 use Rattle.std.specs.Option.{option_or}
 use Rattle.std.specs.List.{list_all, list_any}
-use Rattle.std.specs.Str.{bytes_eq, IsUtf8}
-use Rattle.std.proofs.lemmas.Bool.{both_ways, and_parts, and_from, not-true, or_parts, or_right, or_left, false_from_ne_true}
+use Rattle.std.specs.Str.{bytes_eq}
+use Rattle.std.proofs.lemmas.Bool.{both_ways, and_parts, and_from, not-true, or_parts, or_right, false_from_ne_true}
 use Rattle.std.proofs.lemmas.Slice.Eq.{bytes_eq-Decides}
 use Rattle.clap.specs.Kinds.{Kinds}
 use Rattle.clap.specs.Matches.{first_value, one_text, found_of}
@@ -12,17 +12,14 @@ use Rattle.clap.specs.Walk.{Row, first_of, nothing_held, one_of, row_text, rows_
 use Rattle.clap.specs.Faults.{built_fault, fault_of}
 use Rattle.clap.specs.Simple.{App, built, matches_of}
 use Rattle.clap.specs.declared.parser.matches.ArgMatches.{ArgMatches}
-use Rattle.clap.specs.declared.error.kind.ErrorKind.{ErrorKind}
 use Rattle.clap.proofs.WalkLemmas.{first_value-rows, one_text-rows}
-use Rattle.bonsai_words.specs.declared.orders.WordsError.{WordsError}
-use Rattle.bonsai_words.specs.declared.orders.WordsError.TheVariants.{Usage}
-use Rattle.bonsai_words.specs.Reading.{Text, Given, Table, Kind, plain, dashes, named, unknown, kind_of, is_value, given, Mode, between, awaits, ended, paired, placed, option_met, kind_step, value_step, end_step, word_step, has, is_once, once, reading, option_named, value_of}
-use Rattle.bonsai_words.specs.Parsing.{app_for, is_plain, is_loose_value, loosely, is_flag, Gives, IsSorted, IsTaken}
+use Rattle.bonsai_words.specs.Reading.{Text, Given, Table, Kind, plain, dashes, named, unknown, kind_of, is_value, given, Mode, between, awaits, ended, paired, placed, option_met, kind_step, value_step, has, is_once, once, option_named, value_of}
+use Rattle.bonsai_words.specs.Parsing.{app_for, is_plain, is_loose_value, loosely, is_flag, IsSorted, IsTaken}
 use Rattle.bonsai_words.proofs.WordLemmas.{value_plain, plain_dash}
-use Rattle.bonsai_words.proofs.RuleLemmas.{rules_of, is_sound, option_is, same_text}
+use Rattle.bonsai_words.proofs.RuleLemmas.{rules_of, is_sound, option_is}
 use Rattle.bonsai_words.proofs.StepLemmas.{row_for, rows_for, checked}
 use Rattle.bonsai_words.proofs.ReadLemmas.{AreTexts, finish, words_read}
-use Rattle.bonsai_words.proofs.TakeLemmas.{built_app, built_out, default_find, default_row, default_none, default_some, row_found, is_row}
+use Rattle.bonsai_words.proofs.TakeLemmas.{built_app, built_out, default_row, default_none, default_some, row_found}
 
 -- ---- a flag that is given is `true`
 

@@ -1,23 +1,21 @@
 -- What `clap` makes of the next word behind any words, for a table's command.
-use Rattle.std.proofs.Common.{◌≡◌, ◌∙◌, ◌<◌, ◌≤◌, ◌+◌, ◌==◌, ℕ, zero, suc, Bool, true, false, cond, not, ◌&&◌, ◌||◌, refl, sym, ap, ap₂, subst, arith, List, [], ◌∷◌, ◌++◌, map, length, Option, Some, None, codes, append-nil, append_assoc, drop}
-use Rattle.std.specs.Prelude.{find, option_map, option_and_then, slice_get, nat_lt, is_some, min, encode_utf8, fold}
-use Rattle.std.specs.List.{list_all, list_any}
+use Rattle.std.proofs.Common.{◌≡◌, ◌∙◌, ◌<◌, ◌+◌, ℕ, suc, Bool, true, false, cond, ◌&&◌, ◌||◌, refl, sym, ap, ap₂, arith, List, [], ◌∷◌, ◌++◌, length, Option, Some, None, codes, append-nil, drop}
+use Rattle.std.specs.Prelude.{slice_get, min, encode_utf8}
 use Rattle.std.specs.Option.{option_map_or}
-use Rattle.std.specs.Str.{bytes_eq, chars, IsUtf8}
-use Rattle.std.proofs.lemmas.Bool.{both_ways}
+use Rattle.std.specs.Str.{bytes_eq, chars}
 use Rattle.std.proofs.lemmas.Str.{chars-nil}
-use Rattle.clap.specs.Lexer.{long_of, short_of}
+use Rattle.clap.specs.Lexer.{long_of}
 use Rattle.clap.specs.Kinds.{Kinds, or_else}
 use Rattle.clap.specs.Walk.{Held, Row, Rule, Waiting, idle, option, Step, next, trailing, value, Walk, after_step, arg_by_id, arg_by_index, arg_by_long, arg_by_short, at_row, has_row, is_pending, long_or_other, long_word, long_met, after_flag, more_values, option_word, plain_word, positional_held, pushed, reacted, settled, settled_rows, short_or_plain, subcommand_or_other, to_positional, used, walked, with_values, without, word_met}
-use Rattle.clap.specs.Faults.{bundle_fault, bundle_step_fault, flag_word_fault, flags_fault, long_fault, other_fault, positional_fault, repeat_fault, settle_fault, short_fault, step_fault, stray_fault, turn_fault, use_fault, word_fault}
+use Rattle.clap.specs.Faults.{bundle_fault, bundle_step_fault, flag_word_fault, flags_fault, long_fault, other_fault, positional_fault, settle_fault, short_fault, step_fault, stray_fault, turn_fault, use_fault, word_fault}
 use Rattle.clap.specs.Simple.{Shape}
 use Rattle.clap.specs.declared.builder.value_parser.Reading.TheVariants.{AsWritten}
 use Rattle.clap.specs.declared.parser.matches.ValueSource.TheVariants.{CommandLine}
 use Rattle.clap.specs.declared.error.kind.ErrorKind.{ErrorKind}
 use Rattle.clap.specs.declared.error.kind.ErrorKind.TheVariants as kind
-use Rattle.bonsai_words.specs.Reading.{Text, Given, Table, Kind, plain, dashes, named, unknown, option_named, has}
+use Rattle.bonsai_words.specs.Reading.{Text, Given, Table, plain, named, unknown, option_named, has}
 use Rattle.bonsai_words.proofs.WordLemmas.{two_dashes, HasFirst, Seen}
-use Rattle.bonsai_words.proofs.RuleLemmas.{valued_rule, flagged_rule, built_option, built_options, built_places, rules_of, shape_for, rule_found, place_found, by_long, by_place, IsValued, same_text}
+use Rattle.bonsai_words.proofs.RuleLemmas.{valued_rule, flagged_rule, built_option, built_options, built_places, rules_of, shape_for, rule_found, place_found, by_long, by_place, IsValued}
 
 -- ---- rows
 

@@ -1,27 +1,21 @@
 -- What `clap` answers for a table's command, in terms of what is read.
-use Rattle.std.proofs.Common.{◌≡◌, ◌∙◌, ◌⊎◌, inl, inr, ◌<◌, ◌≤◌, ◌+◌, ◌==◌, ℕ, zero, suc, Bool, true, false, cond, not, ◌&&◌, ◌||◌, refl, sym, ap, ap₂, subst, arith, List, [], ◌∷◌, ◌++◌, length, Option, Some, None, codes, append-nil, append_assoc, drop}
-use Rattle.std.specs.Prelude.{find, fold, option_map, option_and_then, slice_get, is_some, ⊤}
+use Rattle.std.proofs.Common.{◌≡◌, ◌∙◌, ℕ, suc, Bool, true, false, cond, not, ◌&&◌, ◌||◌, refl, sym, ap, ap₂, List, [], ◌∷◌, ◌++◌, Option, Some, None, codes}
+use Rattle.std.specs.Prelude.{find, fold, option_map, is_some}
 use Rattle.std.specs.Option.{option_or}
-use Rattle.std.specs.List.{list_all, list_any}
-use Rattle.std.specs.Str.{bytes_eq, IsUtf8}
-use Rattle.std.proofs.lemmas.Bool.{both_ways, and_parts, not-true, or_parts}
+use Rattle.std.specs.List.{list_any}
+use Rattle.std.specs.Str.{bytes_eq}
+use Rattle.std.proofs.lemmas.Bool.{or_parts}
 use Rattle.std.proofs.lemmas.Slice.Eq.{bytes_eq-Decides}
 use Rattle.clap.specs.Kinds.{Kinds, or_else}
-use Rattle.clap.specs.Matches.{first_value, one_text, found_of}
-use Rattle.clap.specs.Values.{read_as}
-use Rattle.clap.specs.Walk.{Held, Row, Rule, Walk, at_row, default_rows, finished, first_of, has_row, more_values, nothing_held, one_of, row_text, rows_of, settled, walk, walk_from, walked, with_default, idle}
+use Rattle.clap.specs.Walk.{Row, Rule, Walk, at_row, default_rows, finished, has_row, more_values, nothing_held, settled, walk, walk_from, walked, with_default, idle}
 use Rattle.clap.specs.Faults.{built_fault, check_fault, default_fault, defaults_fault, entered_fault, fault_of, level_fault, settle_fault, turn_fault, walk_fault}
-use Rattle.clap.specs.Simple.{App, Shape, built, entered, matches_of, argument_words}
+use Rattle.clap.specs.Simple.{App, Shape, entered}
 use Rattle.clap.specs.declared.builder.value_parser.Reading.TheVariants.{AsWritten}
-use Rattle.clap.specs.declared.parser.matches.ValueSource.TheVariants.{CommandLine, DefaultValue}
-use Rattle.clap.specs.declared.parser.matches.ArgMatches.{ArgMatches}
+use Rattle.clap.specs.declared.parser.matches.ValueSource.TheVariants.{DefaultValue}
 use Rattle.clap.specs.declared.error.kind.ErrorKind.{ErrorKind}
-use Rattle.clap.proofs.WalkLemmas.{first_value-rows, one_text-rows}
-use Rattle.bonsai_words.specs.Reading.{Text, Given, Table, given, between, has, is_once, once, option_named, value_of}
-use Rattle.bonsai_words.specs.Parsing.{is_loose_value, loosely, is_flag, Gives}
+use Rattle.bonsai_words.specs.Reading.{Text, Given, Table}
 use Rattle.bonsai_words.proofs.RuleLemmas.{built_option, built_options, built_places, rules_of, shape_for, is_sound}
-use Rattle.bonsai_words.proofs.StepLemmas.{row_for, rows_for, has_rows, resting, at, checked, out}
-use Rattle.bonsai_words.proofs.ReadLemmas.{AreTexts, finish, words_read}
+use Rattle.bonsai_words.proofs.StepLemmas.{row_for, rows_for, resting, at, checked, out}
 
 -- ---- faults
 

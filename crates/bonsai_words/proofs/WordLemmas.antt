@@ -1,8 +1,8 @@
 -- What `clap` makes of one word, by its kind.
-use Rattle.std.proofs.Common.{◌≡◌, ◌∙◌, ◌<◌, ◌+◌, ◌==◌, ℕ, zero, suc, Bool, true, false, cond, not, refl, sym, ap, subst, arith, List, [], ◌∷◌, ◌++◌, length, Option, Some, None, drop}
-use Rattle.std.specs.Prelude.{slice_get, encode_utf8}
+use Rattle.std.proofs.Common.{◌≡◌, ◌∙◌, ◌==◌, ℕ, Bool, true, false, cond, not, refl, sym, ap, subst, arith, List, [], ◌∷◌, Some, None}
+use Rattle.std.specs.Prelude.{slice_get}
 use Rattle.std.specs.Str.{bytes_eq, chars, IsUtf8, encode_utf8_all}
-use Rattle.std.proofs.lemmas.Bool.{eqb-true, both_ways}
+use Rattle.std.proofs.lemmas.Bool.{eqb-true}
 use Rattle.std.proofs.lemmas.Str.{chars-encodes, IsUtf8-drop, IsCharBoundary-after_ascii}
 use Rattle.clap.specs.Lexer.{long_of, short_of}
 use Rattle.bonsai_words.specs.Reading.{Text, Kind, plain, dashes, named, unknown, kind_of, dashed_kind, named_kind, is_value}

@@ -1,8 +1,8 @@
 -- Which order words name.
-use Rattle.std.specs.Prelude.{◌≡◌, Result, Ok, Err, ℕ, ◌==◌, ◌&&◌, ◌||◌, Bool, true, false, not, List, [], ◌∷◌, map, length}
+use Rattle.std.specs.Prelude.{◌≡◌, Result, Ok, Err, ℕ, ◌==◌, ◌&&◌, ◌||◌, Bool, true, false, not, List, [], ◌∷◌, length}
 use Rattle.std.specs.Prelude.{Option, Some, None, codes, if◌then◌else◌, nat_le, option_and_then}
 use Rattle.std.specs.Prelude.{string_bytes}
-use Rattle.std.specs.List.{list_all, Contains}
+use Rattle.std.specs.List.{list_all}
 use Rattle.std.specs.Str.{bytes_eq}
 use Rattle.std.specs.Str.Parse.{digits_value}
 use Rattle.word_core.specs.declared.names.Player.{Player}
@@ -11,7 +11,7 @@ use Rattle.bonsai_words.specs.declared.orders.Order.{Order}
 use Rattle.bonsai_words.specs.declared.orders.WordsError.{WordsError}
 use Rattle.bonsai_words.specs.declared.orders.WordsError.TheVariants.{Usage}
 use Rattle.bonsai_words.specs.declared.orders.Order.TheVariants.{Synth, Downset, Check, Eval, Gen}
-use Rattle.bonsai_words.specs.Reading.{Text, Given, Table, reading, value_of, has}
+use Rattle.bonsai_words.specs.Reading.{Text, Table, reading, value_of, has}
 
 -- an order, with its names as bytes
 pub data Asked : Type 0 where

@@ -1,9 +1,9 @@
 -- A command's table as `clap` is told it.
-use Rattle.std.specs.Prelude.{◌≡◌, Ok, Err, option_and_then, not, ◌&&◌, Bool, true, false, List, [], ◌∷◌, ◌++◌, map, Option, Some, None, Result, codes, if◌then◌else◌}
+use Rattle.std.specs.Prelude.{◌≡◌, Ok, Err, option_and_then, not, ◌&&◌, Bool, true, false, List, [], ◌++◌, map, Option, Some, None, Result, codes, if◌then◌else◌}
 use Rattle.std.specs.List.{list_any}
 use Rattle.std.specs.Str.{bytes_eq}
 use Rattle.clap.specs.Words.{App, Rule, new_rule, fault_of, first_value, one_text, found_of, matches_of, rows_of}
-use Rattle.clap.specs.Simple.{Shape, new_shape}
+use Rattle.clap.specs.Simple.{new_shape}
 use Rattle.clap.specs.declared.builder.action.ArgAction.TheVariants.{Set, SetTrue}
 use Rattle.clap.specs.declared.parser.matches.ArgMatches.{ArgMatches}
 use Rattle.bonsai_words.specs.declared.orders.WordsError.{WordsError}

@@ -1,6 +1,6 @@
-use Rattle.std.proofs.Common.{◌≡◌, refl, sym, ap, subst, codes, map, string_bytes, true}
+use Rattle.std.proofs.Common.{refl, ap, subst, codes, map, string_bytes}
 use Rattle.clap.specs.Words.{App, is_simple_and_free}
-use Rattle.bonsai_words.specs.Parsing.{app_for, IsTaken}
+use Rattle.bonsai_words.specs.Parsing.{IsTaken}
 use Rattle.bonsai_words.specs.Ordered.{synth_table}
 use Rattle.bonsai_words.proofs.OrderLemmas.{sorted_from, synth_built}
 use Rattle.bonsai_words.proofs.commands.synth.Goals as goal

@@ -1,5 +1,4 @@
-use Rattle.std.proofs.Common.{◌≡◌, refl, ap, codes, map, drop, string_bytes}
-use Rattle.clap.specs.Words.{first_value, found_of}
+use Rattle.std.proofs.Common.{refl, map, drop, string_bytes}
 use Rattle.bonsai_words.specs.Ordered.{downset_table, downset_of}
 use Rattle.bonsai_words.proofs.OrderLemmas.{none_ordered, some_ordered, flag_given, answers_at, answers_err, downset_minds, downset_looks}
 use Rattle.bonsai_words.proofs.readers.read_downset.Goals as goal

@@ -1,4 +1,4 @@
-use Rattle.std.proofs.Common.{◌≡◌, refl, ap, codes, map, drop, string_bytes, true}
+use Rattle.std.proofs.Common.{refl, map, drop, string_bytes, true}
 use Rattle.bonsai_words.specs.Ordered.{gen_table, gen_of}
 use Rattle.bonsai_words.proofs.OrderLemmas.{none_ordered, some_ordered, answers_at, answers_err, gen_minds, gen_looks}
 use Rattle.bonsai_words.proofs.readers.read_gen.Goals as goal

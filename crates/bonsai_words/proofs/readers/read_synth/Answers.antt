@@ -1,5 +1,4 @@
-use Rattle.std.proofs.Common.{◌≡◌, refl, ap, codes, map, drop, string_bytes}
-use Rattle.clap.specs.Words.{first_value, found_of}
+use Rattle.std.proofs.Common.{refl, map, drop, string_bytes}
 use Rattle.bonsai_words.specs.Ordered.{synth_table, synth_of}
 use Rattle.bonsai_words.proofs.OrderLemmas.{none_ordered, some_ordered, flag_given, answers_at, answers_err, synth_minds, synth_looks}
 use Rattle.bonsai_words.proofs.readers.read_synth.Goals as goal

@@ -1,4 +1,4 @@
-use Rattle.std.proofs.Common.{◌≡◌, ◌∙◌, sym, ap, codes, map, drop, string_bytes}
+use Rattle.std.proofs.Common.{◌∙◌, sym, ap, map, drop, string_bytes}
 use Rattle.bonsai_words.specs.Ordered.{ordered_behind}
 use Rattle.bonsai_words.proofs.OrderLemmas.{answers_at, ordered_first, ordered_none, no_command}
 use Rattle.bonsai_words.proofs.NameLemmas.{order_names}

@@ -1,4 +1,4 @@
-use Rattle.std.proofs.Common.{◌≡◌, subst, sym, List, ℕ}
+use Rattle.std.proofs.Common.{subst}
 use Rattle.bonsai_words.proofs.NumberLemmas.{BeginsWell, number_some, number_none}
 use Rattle.bonsai_words.proofs.values.parse_number.Goals as goal
 
