@@ -1,5 +1,5 @@
 -- What an order may hold.
-use Rattle.std.specs.Prelude.{ℕ, ◌<◌, ◌≤◌, length, String, string_bytes}
+use Rattle.std.specs.Prelude.{ℕ, ◌<◌, ◌≤◌, List, [], ◌∷◌, length, String, string_bytes}
 use Rattle.std.specs.declared.alloc.Global.{Global}
 use Rattle.bonsai_words.specs.declared.orders.Order.{Order}
 use Rattle.bonsai_words.specs.declared.orders.Order.TheVariants.{Synth, Downset, Check, Eval, Gen}
@@ -23,3 +23,11 @@ IsInRange (Downset name player bound as_written) = IsNamed name × (bound ≤ 10
 IsInRange (Check name machine bound as_written) = IsNamed name × IsNamed machine × (bound ≤ 10000)
 IsInRange (Eval name lasso as_written) = IsNamed name × IsNamed lasso
 IsInRange (Gen clients workers) = IsWithin 1 8 clients × IsWithin 1 64 workers
+
+-- the names of texts, as bytes
+abbrev pub names_of : Order → List (List ℕ)
+names_of (Synth name bounds workers as_written) = string_bytes name ∷ []
+names_of (Downset name player bound as_written) = string_bytes name ∷ []
+names_of (Check name machine bound as_written) = string_bytes name ∷ string_bytes machine ∷ []
+names_of (Eval name lasso as_written) = string_bytes name ∷ string_bytes lasso ∷ []
+names_of (Gen clients workers) = []

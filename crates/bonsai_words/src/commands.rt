@@ -1,5 +1,12 @@
 //! The words of a command, sorted into options, flags and plain words.
 
+ghost use Rattle.std.specs.Prelude.{◌≡◌, IfOk, true, false, drop, map, string_bytes, codes};
+ghost use Rattle.clap.specs.Words.{app_of, is_simple_and_free, rule_of};
+ghost use Rattle.bonsai_words.specs.Parsing.{app_for, bare_app, flag_rule, place_rule, value_rule};
+ghost use Rattle.bonsai_words.specs.Parsing.{IsSorted, IsTaken};
+ghost use Rattle.bonsai_words.specs.Ordered.{synth_table, downset_table, check_table, eval_table};
+ghost use Rattle.bonsai_words.specs.Ordered.{gen_table};
+
 use crate::orders::WordsError;
 use clap::error::ErrorKind;
 use clap::{Arg, ArgAction, ArgMatches, Command};
@@ -25,29 +32,41 @@ pub const PLAYER: &str = "player";
 pub const AS_WRITTEN: &str = "as-written";
 
 /// A plain word.
-fn plain<'a>(alloc: Global, id: &'a str) -> Arg<'a> {
+fn plain<'a>(alloc: Global, id: &'a str) -> Arg<'a>
+    ensures rule { rule_of result ≡ place_rule id.entry.now }
+    ensures local { result.global ≡ false }
+{
     Arg::new(alloc, id).action(ArgAction::Set)
 }
 
 /// An option with a value, at most once.
-fn option<'a>(alloc: Global, name: &'a str) -> Arg<'a> {
+fn option<'a>(alloc: Global, name: &'a str) -> Arg<'a>
+    ensures rule { rule_of result ≡ value_rule name.entry.now }
+    ensures local { result.global ≡ false }
+{
     Arg::new(alloc, name).long(name).action(ArgAction::Set)
 }
 
 /// A flag, at most once.
-fn flag<'a>(alloc: Global, name: &'a str) -> Arg<'a> {
+fn flag<'a>(alloc: Global, name: &'a str) -> Arg<'a>
+    ensures rule { rule_of result ≡ flag_rule name.entry.now }
+    ensures local { result.global ≡ false }
+{
     Arg::new(alloc, name).long(name).action(ArgAction::SetTrue)
 }
 
 /// A command without a flag for help.
-fn command<'a>(alloc: Global, name: &'a str) -> Command<'a> {
+fn command<'a>(alloc: Global, name: &'a str) -> Command<'a>
+    ensures { app_of result ≡ bare_app name.entry.now }
+{
     Command::new(alloc, name)
         .disable_help_flag(true)
         .disable_version_flag(true)
 }
 
-/// What `synth` reads.
-pub fn synth<'a>(alloc: Global) -> Result<Command<'a>, AllocError> {
+fn synth_command<'a>(alloc: Global) -> Result<Command<'a>, AllocError>
+    ensures { IfOk result (λ c. app_of c ≡ app_for (codes "synth") synth_table) }
+{
     command(alloc, "synth")
         .arg(plain(alloc, NAME))?
         .arg(option(alloc, BOUND))?
@@ -57,8 +76,9 @@ pub fn synth<'a>(alloc: Global) -> Result<Command<'a>, AllocError> {
         .arg(flag(alloc, AS_WRITTEN))
 }
 
-/// What `downset` reads.
-pub fn downset<'a>(alloc: Global) -> Result<Command<'a>, AllocError> {
+fn downset_command<'a>(alloc: Global) -> Result<Command<'a>, AllocError>
+    ensures { IfOk result (λ c. app_of c ≡ app_for (codes "downset") downset_table) }
+{
     command(alloc, "downset")
         .arg(plain(alloc, NAME))?
         .arg(option(alloc, PLAYER))?
@@ -66,8 +86,9 @@ pub fn downset<'a>(alloc: Global) -> Result<Command<'a>, AllocError> {
         .arg(flag(alloc, AS_WRITTEN))
 }
 
-/// What `check` reads.
-pub fn check<'a>(alloc: Global) -> Result<Command<'a>, AllocError> {
+fn check_command<'a>(alloc: Global) -> Result<Command<'a>, AllocError>
+    ensures { IfOk result (λ c. app_of c ≡ app_for (codes "check") check_table) }
+{
     command(alloc, "check")
         .arg(plain(alloc, NAME))?
         .arg(plain(alloc, SECOND))?
@@ -75,23 +96,63 @@ pub fn check<'a>(alloc: Global) -> Result<Command<'a>, AllocError> {
         .arg(flag(alloc, AS_WRITTEN))
 }
 
-/// What `eval` reads.
-pub fn eval<'a>(alloc: Global) -> Result<Command<'a>, AllocError> {
+fn eval_command<'a>(alloc: Global) -> Result<Command<'a>, AllocError>
+    ensures { IfOk result (λ c. app_of c ≡ app_for (codes "eval") eval_table) }
+{
     command(alloc, "eval")
         .arg(plain(alloc, NAME))?
         .arg(plain(alloc, SECOND))?
         .arg(flag(alloc, AS_WRITTEN))
 }
 
-/// What `gen` reads.
-pub fn generate<'a>(alloc: Global) -> Result<Command<'a>, AllocError> {
+fn gen_command<'a>(alloc: Global) -> Result<Command<'a>, AllocError>
+    ensures { IfOk result (λ c. app_of c ≡ app_for (codes "gen") gen_table) }
+{
     command(alloc, "gen")
         .arg(plain(alloc, CLIENTS))?
         .arg(option(alloc, WORKERS))
 }
 
+/// What `synth` reads. The first of the words is the command's.
+pub fn synth<'a>(alloc: Global, words: &'a [String]) -> Result<ArgMatches<'a>, WordsError>
+    ensures { IsSorted synth_table (drop 1 (map string_bytes words.entry.now)) result }
+{
+    sort(synth_command(alloc)?, words)
+}
+
+/// What `downset` reads. The first of the words is the command's.
+pub fn downset<'a>(alloc: Global, words: &'a [String]) -> Result<ArgMatches<'a>, WordsError>
+    ensures { IsSorted downset_table (drop 1 (map string_bytes words.entry.now)) result }
+{
+    sort(downset_command(alloc)?, words)
+}
+
+/// What `check` reads. The first of the words is the command's.
+pub fn check<'a>(alloc: Global, words: &'a [String]) -> Result<ArgMatches<'a>, WordsError>
+    ensures { IsSorted check_table (drop 1 (map string_bytes words.entry.now)) result }
+{
+    sort(check_command(alloc)?, words)
+}
+
+/// What `eval` reads. The first of the words is the command's.
+pub fn eval<'a>(alloc: Global, words: &'a [String]) -> Result<ArgMatches<'a>, WordsError>
+    ensures { IsSorted eval_table (drop 1 (map string_bytes words.entry.now)) result }
+{
+    sort(eval_command(alloc)?, words)
+}
+
+/// What `gen` reads. The first of the words is the command's.
+pub fn generate<'a>(alloc: Global, words: &'a [String]) -> Result<ArgMatches<'a>, WordsError>
+    ensures { IsSorted gen_table (drop 1 (map string_bytes words.entry.now)) result }
+{
+    sort(gen_command(alloc)?, words)
+}
+
 /// The words, of which the first names the command, as the command reads them.
-pub fn sort<'a>(command: Command<'a>, words: &'a [String]) -> Result<ArgMatches<'a>, WordsError> {
+fn sort<'a>(command: Command<'a>, words: &'a [String]) -> Result<ArgMatches<'a>, WordsError>
+    ensures { is_simple_and_free (app_of command.entry) ≡ true
+        → IsTaken (app_of command.entry) (map string_bytes words.entry.now) result }
+{
     match command.try_get_matches_from(words) {
         Ok(matches) => Ok(matches),
         Err(error) => Err(match error.kind() {
