@@ -1,10 +1,10 @@
 -- One text written after another.
-use Rattle.std.proofs.Common.{◌≡◌, ℕ, zero, suc, ◌+◌, ◌-◌, ◌≤◌, List, [], ◌∷◌, ◌++◌, length, take, drop, refl, sym, ap, ◌∙◌, subst, arith, Option, min}
+use Rattle.std.proofs.Common.{◌≡◌, ℕ, zero, suc, ◌+◌, ◌-◌, ◌≤◌, List, [], ◌∷◌, ◌++◌, length, take, drop, refl, sym, ap, ◌∙◌, subst, arith, Option}
 use Rattle.std.proofs.Math.Seq.{take-append-add}
 use Rattle.std.proofs.lemmas.List.{take_all, take-take, take-append-drop, drop-take}
-use Rattle.std.specs.Prelude.{Result, Ok, Err, OnOk, OnErr, IsErr}
-use Rattle.shelf_io.specs.Faults.{Rose, raised}
-use Rattle.shelf_io.specs.Written.{appended, AppendsPrefix, appended-appended, appended-nil}
+use Rattle.std.specs.Prelude.{Result, Ok, Err, IsErr}
+use Rattle.shelf_io.specs.Faults.{Rose}
+use Rattle.shelf_io.specs.Written.{appended, AppendsPrefix, appended-appended}
 use Rattle.bonsai_run.specs.declared.faults.Fault.{Fault}
 use Rattle.bonsai_run.specs.Faults.{fault_text}
 use Rattle.bonsai_run.specs.Writing.{Writes, Tells}

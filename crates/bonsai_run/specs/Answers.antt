@@ -1,5 +1,5 @@
 -- The texts of answers, by their statuses.
-use Rattle.std.specs.Prelude.{◌≡◌, ℕ, ℤ, List, [], ◌∷◌, ◌++◌, codes, decimal, length}
+use Rattle.std.specs.Prelude.{◌≡◌, ◌≤◌, ℕ, ℤ, Bool, List, [], ◌∷◌, ◌++◌, codes, decimal, length}
 use Rattle.std.specs.Fmt.{signed_decimal}
 use Rattle.word_core.specs.declared.names.Player.{Player}
 use Rattle.word_core.specs.declared.names.Player.TheVariants.{System, Environment}
@@ -7,6 +7,10 @@ use Rattle.word_core.specs.declared.names.Names.{Names}
 use Rattle.word_core.specs.Machine.{MachineData}
 use Rattle.machine_text.specs.Machines.{machine_text, player_word}
 use Rattle.spec_gen.specs.Arbiter.{arbiter_text}
+use Rattle.bonsai_words.specs.Ordered.{Asked}
+use Rattle.bonsai_words.specs.Ordered.Asked.{synth, downset, check, eval, gen}
+use Rattle.bonsai_run.specs.declared.verdicts.Verdict.{Verdict}
+use Rattle.bonsai_run.specs.declared.verdicts.Verdict.TheVariants.{Won, Unknown}
 
 -- a line with a bound
 abbrev pub bound_line : ℕ → List ℕ
@@ -54,14 +58,32 @@ won_comment bound m = codes "// " ++ verdict_word m.player ++ codes " bound " ++
 abbrev pub unknown_comment : ℕ → List ℕ
 unknown_comment bound = codes "// UNKNOWN bound " ++ decimal bound ++ codes "\n"
 
--- an answer: its status and its text
-pub data IsAnswer : ℕ → List ℕ → Type 0 where
-  won : (names : Names) (bound : ℕ) (m : MachineData) → IsAnswer (verdict_status m.player) (won_text names bound m)
-  unknown : (bound : ℕ) → IsAnswer 30 (unknown_text bound)
-  downset : (player : Player) (bound lanes : ℕ) (vectors : List (List ℤ)) → IsAnswer 0 (downset_text player bound lanes vectors)
-  valid : IsAnswer 0 (codes "VALID\n")
-  over : IsAnswer 40 (codes "OVER\n")
-  holds : IsAnswer 0 (codes "HOLDS\n")
-  fails : IsAnswer 40 (codes "FAILS\n")
-  generated : (clients bound : ℕ) (m : MachineData) → IsAnswer 0 (arbiter_text clients ++ won_comment bound m)
-  undecided : (clients bound : ℕ) → IsAnswer 0 (arbiter_text clients ++ unknown_comment bound)
+-- a verdict lies between the first and the last of the bounds to try, and where nobody wins the last was tried
+abbrev pub IsVerdict : ℕ → ℕ → Verdict → Type 0
+IsVerdict first last (Won bound machine) = (first ≤ bound) × (bound ≤ last)
+IsVerdict first last (Unknown bound) = bound ≡ last
+
+-- the status and the text of a verdict
+abbrev pub verdict_of : Verdict → ℕ
+verdict_of (Won bound machine) = verdict_status machine.player
+verdict_of (Unknown bound) = 30
+
+abbrev pub verdict_text : Names → Verdict → List ℕ
+verdict_text names (Won bound machine) = won_text names bound machine
+verdict_text names (Unknown bound) = unknown_text bound
+
+abbrev pub verdict_comment : Verdict → List ℕ
+verdict_comment (Won bound machine) = won_comment bound machine
+verdict_comment (Unknown bound) = unknown_comment bound
+
+-- what an order may be answered: a status and a text
+pub data IsAnswer : Asked → ℕ → List ℕ → Type 0 where
+  decided : (name : List ℕ) (bounds : ℕ × ℕ × ℕ) (workers : ℕ) (as_written : Bool) (names : Names) (v : Verdict) → IsVerdict bounds.0 bounds.2 v
+      → IsAnswer (synth name bounds workers as_written) (verdict_of v) (verdict_text names v)
+  held : (name : List ℕ) (player : Player) (bound : ℕ) (as_written : Bool) (lanes : ℕ) (vectors : List (List ℤ))
+      → IsAnswer (downset name player bound as_written) 0 (downset_text player bound lanes vectors)
+  valid : (name machine : List ℕ) (bound : ℕ) (as_written : Bool) → IsAnswer (check name machine bound as_written) 0 (codes "VALID\n")
+  over : (name machine : List ℕ) (bound : ℕ) (as_written : Bool) → IsAnswer (check name machine bound as_written) 40 (codes "OVER\n")
+  holds : (name lasso : List ℕ) (as_written : Bool) → IsAnswer (eval name lasso as_written) 0 (codes "HOLDS\n")
+  fails : (name lasso : List ℕ) (as_written : Bool) → IsAnswer (eval name lasso as_written) 40 (codes "FAILS\n")
+  generated : (clients workers : ℕ) (v : Verdict) → IsVerdict 0 8 v → IsAnswer (gen clients workers) 0 (arbiter_text clients ++ verdict_comment v)

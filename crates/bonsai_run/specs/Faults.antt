@@ -1,5 +1,5 @@
 -- The status and the line of each fault.
-use Rattle.std.specs.Prelude.{◌≡◌, ℕ, ◌+◌, ◌≤◌, List, ◌++◌, Option, Some, codes, decimal}
+use Rattle.std.specs.Prelude.{◌≡◌, ℕ, ◌<◌, List, ◌++◌, length, Option, Some, codes, decimal}
 use Rattle.shelf_io.specs.Faults.{Rose}
 use Rattle.tlsf_lex.specs.declared.tokens.LexFault.{LexFault}
 use Rattle.tlsf_lex.specs.declared.tokens.LexFault.TheVariants.{BadByte, OpenComment, NestedComment, OpenString}
@@ -79,11 +79,11 @@ fault_text name other Covers = codes "bonsai: limit: covers\n"
 fault_text name other States = codes "bonsai: limit: states\n"
 fault_text name other Memory = codes "bonsai: out of memory\n"
 
--- a fault that comes behind the words and before the writing; an unread text raised the shelf's count, and its name is the last that failed
+-- a fault that comes behind the words and before the writing; an unread text raised the shelf's count, and its name, which isn't empty, is the last that failed
 abbrev pub Blames : ℕ → ℕ → Option (List ℕ) → List ℕ → List ℕ → Fault → Type 0
 Blames before now last name other Unwritten = ⊥
 Blames before now last name other Usage = ⊥
-Blames before now last name other (Unread source) = Rose before now × (last ≡ Some (named name other source))
+Blames before now last name other (Unread source) = Rose before now × (last ≡ Some (named name other source)) × (0 < length (named name other source))
 Blames before now last name other _ = Unit {0}
 
 -- a fault that no fetch gives

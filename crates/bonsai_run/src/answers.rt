@@ -1,7 +1,7 @@
 //! Answers, made before their first byte is written.
 
 ghost use Rattle.std.specs.Prelude.{◌≡◌, ◌++◌, codes, decimal, IfOk, OnOk};
-ghost use Rattle.bonsai_run.specs.Answers.{IsAnswer, bound_line, verdict_word, verdict_status, won_text, unknown_text};
+ghost use Rattle.bonsai_run.specs.Answers.{verdict_of, verdict_text, bound_line, verdict_word, verdict_status, won_text, unknown_text};
 
 use crate::verdicts::Verdict;
 use itoa::Buffer;
@@ -27,9 +27,9 @@ pub fn word_answer(alloc: Global, status: u8, word: &[u8]) -> Result<Answer, All
 }
 
 /// The answer with a verdict, its bound and its machine.
-#[tactic(auto, using(crate::proofs::Answering::is_won, crate::proofs::Answering::is_unknown))]
 pub fn verdict_answer(alloc: Global, verdict: &Verdict, names: &Names) -> Result<Answer, AllocError>
-    ensures { IfOk result (λ a. IsAnswer a.status a.text.items) }
+    ensures status { IfOk result (λ a. a.status ≡ verdict_of verdict.now) }
+    ensures text { IfOk result (λ a. a.text.items ≡ verdict_text names.now verdict.now) }
 {
     match verdict {
         Verdict::Won { bound, machine } => won_answer(alloc, *bound, machine, names),

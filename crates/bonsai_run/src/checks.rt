@@ -1,8 +1,9 @@
 //! The checks of machines and lassos.
 
-ghost use Rattle.std.specs.Prelude.{◌≡◌, ◌≤◌, IfOk, IfErr, true, length, codes};
+ghost use Rattle.std.specs.Prelude.{◌≡◌, ◌≤◌, ℕ, Bool, List, IfOk, IfErr, true, length, codes};
 ghost use Rattle.ltl_form.specs.Formula.{signals_below};
 ghost use Rattle.tlsf_basic.specs.Specification.{signal_count};
+ghost use Rattle.bonsai_words.specs.Ordered.Asked.{check, eval};
 ghost use Rattle.bonsai_run.specs.Answers.{IsAnswer};
 ghost use Rattle.bonsai_run.specs.Faults.{IsInner};
 
@@ -22,7 +23,7 @@ pub fn check_answer(alloc: Global, spec: &Spec, text: &[u8], bound: u32) -> Resu
     requires short { length text.now ≤ 1048576 }
     requires few { signal_count spec.now.names ≤ 40 }
     requires numbered { signals_below (signal_count spec.now.names) spec.now.formula ≡ true }
-    ensures answer { IfOk result (λ a. IsAnswer a.status a.text.items) }
+    ensures answer { IfOk result (λ a. (name machine : List ℕ) (bound : ℕ) (as_written : Bool) → IsAnswer (check name machine bound as_written) a.status a.text.items) }
     ensures fault { IfErr result IsInner }
 {
     let machine = read_machine(alloc, text, &spec.names)?;
@@ -36,7 +37,7 @@ pub fn eval_answer(alloc: Global, spec: &Spec, text: &[u8]) -> Result<Answer, Fa
     requires short { length text.now ≤ 1048576 }
     requires few { signal_count spec.now.names ≤ 40 }
     requires numbered { signals_below (signal_count spec.now.names) spec.now.formula ≡ true }
-    ensures answer { IfOk result (λ a. IsAnswer a.status a.text.items) }
+    ensures answer { IfOk result (λ a. (name lasso : List ℕ) (as_written : Bool) → IsAnswer (eval name lasso as_written) a.status a.text.items) }
     ensures fault { IfErr result IsInner }
 {
     let signals = spec.names.inputs.len() as u32 + spec.names.outputs.len() as u32;
@@ -49,7 +50,7 @@ pub fn eval_answer(alloc: Global, spec: &Spec, text: &[u8]) -> Result<Answer, Fa
 /// Whether a bound was kept, in words.
 #[tactic(auto, using(crate::proofs::Answering::is_valid, crate::proofs::Answering::is_over))]
 fn kept_answer(alloc: Global, kept: bool) -> Result<Answer, AllocError>
-    ensures { IfOk result (λ a. IsAnswer a.status a.text.items) }
+    ensures { IfOk result (λ a. (name machine : List ℕ) (bound : ℕ) (as_written : Bool) → IsAnswer (check name machine bound as_written) a.status a.text.items) }
 {
     if kept {
         word_answer(alloc, 0, b"VALID")
@@ -61,7 +62,7 @@ fn kept_answer(alloc: Global, kept: bool) -> Result<Answer, AllocError>
 /// Whether a formula held, in words.
 #[tactic(auto, using(crate::proofs::Answering::is_holds, crate::proofs::Answering::is_fails))]
 fn held_answer(alloc: Global, held: bool) -> Result<Answer, AllocError>
-    ensures { IfOk result (λ a. IsAnswer a.status a.text.items) }
+    ensures { IfOk result (λ a. (name lasso : List ℕ) (as_written : Bool) → IsAnswer (eval name lasso as_written) a.status a.text.items) }
 {
     if held {
         word_answer(alloc, 0, b"HOLDS")

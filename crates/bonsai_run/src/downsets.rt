@@ -1,9 +1,10 @@
 //! The maximal vectors that a player holds, as an answer.
 
-ghost use Rattle.std.specs.Prelude.{◌≡◌, ◌++◌, ◌≤◌, List, ℤ, codes, decimal, IfOk, IfErr, OnOk, true, map};
+ghost use Rattle.std.specs.Prelude.{◌≡◌, ◌++◌, ◌≤◌, ℕ, Bool, List, ℤ, codes, decimal, IfOk, IfErr, OnOk, true, map};
 ghost use Rattle.std.specs.Fmt.{signed_decimal};
 ghost use Rattle.ltl_form.specs.Formula.{signals_below};
 ghost use Rattle.tlsf_basic.specs.Specification.{signal_count};
+ghost use Rattle.bonsai_words.specs.Ordered.Asked.{downset};
 ghost use Rattle.bonsai_run.specs.Answers.{IsAnswer, downset_text, vector_line, vector_lines, spaced};
 ghost use Rattle.bonsai_run.specs.Faults.{IsInner};
 
@@ -30,7 +31,7 @@ pub fn downset_answer(
     requires bound { bound ≤ 10000 }
     requires few { signal_count spec.now.names ≤ 40 }
     requires numbered { signals_below (signal_count spec.now.names) spec.now.formula ≡ true }
-    ensures answer { IfOk result (λ a. IsAnswer a.status a.text.items) }
+    ensures answer { IfOk result (λ a. (name : List ℕ) (as_written : Bool) → IsAnswer (downset name player bound as_written) a.status a.text.items) }
     ensures fault { IfErr result IsInner }
 {
     let a = automaton(alloc, spec, player)?;
@@ -50,7 +51,7 @@ fn held_answer(
     lanes: usize,
     list: &ListDownset<Counters>,
 ) -> Result<Answer, AllocError>
-    ensures { IfOk result (λ a. IsAnswer a.status a.text.items) }
+    ensures { IfOk result (λ a. (name : List ℕ) (as_written : Bool) → IsAnswer (downset name player bound as_written) a.status a.text.items) }
 {
     let text = downset_text(alloc, player, bound, lanes, list)?;
     Ok(Answer { status: 0, text })

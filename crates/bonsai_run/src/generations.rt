@@ -1,8 +1,9 @@
 //! The text of an arbiter with its answer.
 
-ghost use Rattle.std.specs.Prelude.{◌≡◌, ◌++◌, ◌≤◌, IfOk, IfErr, OnOk};
+ghost use Rattle.std.specs.Prelude.{◌≡◌, ◌++◌, ◌≤◌, ℕ, IfOk, IfErr, OnOk};
+ghost use Rattle.bonsai_words.specs.Ordered.Asked.{gen};
 ghost use Rattle.spec_gen.specs.Arbiter.{arbiter_text};
-ghost use Rattle.bonsai_run.specs.Answers.{IsAnswer, won_comment, unknown_comment};
+ghost use Rattle.bonsai_run.specs.Answers.{IsAnswer, IsVerdict, won_comment, unknown_comment, verdict_comment};
 ghost use Rattle.bonsai_run.specs.Faults.{IsInner};
 
 use crate::answers::{Answer, push_number, verdict_word};
@@ -25,7 +26,7 @@ const DEFAULT_BOUNDS: Bounds = Bounds {
 pub fn generated_answer(alloc: Global, clients: u32) -> Result<Answer, Fault>
     requires some { 1 ≤ clients }
     requires few { clients ≤ 8 }
-    ensures answer { IfOk result (λ a. IsAnswer a.status a.text.items) }
+    ensures answer { IfOk result (λ a. (workers : ℕ) → IsAnswer (gen clients workers) a.status a.text.items) }
     ensures fault { IfErr result IsInner }
 {
     let text = arbiter(alloc, clients)?;
@@ -36,36 +37,23 @@ pub fn generated_answer(alloc: Global, clients: u32) -> Result<Answer, Fault>
 
 /// The answer of an arbiter's text with a comment on the verdict.
 fn commented(text: Vec<u8>, clients: u32, verdict: &Verdict) -> Result<Answer, AllocError>
-    requires { text.items ≡ arbiter_text clients }
-    ensures { IfOk result (λ a. IsAnswer a.status a.text.items) }
+    requires text { text.items ≡ arbiter_text clients }
+    requires verdict { IsVerdict 0 8 verdict.now }
+    ensures { IfOk result (λ a. (workers : ℕ) → IsAnswer (gen clients workers) a.status a.text.items) }
+{
+    let _ = clients;
+    let mut text = text;
+    push_comment(&mut text, verdict)?;
+    Ok(Answer { status: 0, text })
+}
+
+fn push_comment(text: &mut Vec<u8>, verdict: &Verdict) -> Result<(), AllocError>
+    ensures { OnOk result (text.new.items ≡ text.old.items ++ verdict_comment verdict.now) }
 {
     match verdict {
-        Verdict::Won { bound, machine } => commented_won(text, clients, *bound, machine),
-        Verdict::Unknown { bound } => commented_unknown(text, clients, *bound),
+        Verdict::Won { bound, machine } => push_won(text, *bound, machine),
+        Verdict::Unknown { bound } => push_unknown(text, *bound),
     }
-}
-
-fn commented_won(
-    text: Vec<u8>,
-    _clients: u32,
-    bound: u32,
-    machine: &Machine,
-) -> Result<Answer, AllocError>
-    requires { text.items ≡ arbiter_text _clients }
-    ensures { IfOk result (λ a. IsAnswer a.status a.text.items) }
-{
-    let mut text = text;
-    push_won(&mut text, bound, machine)?;
-    Ok(Answer { status: 0, text })
-}
-
-fn commented_unknown(text: Vec<u8>, _clients: u32, bound: u32) -> Result<Answer, AllocError>
-    requires { text.items ≡ arbiter_text _clients }
-    ensures { IfOk result (λ a. IsAnswer a.status a.text.items) }
-{
-    let mut text = text;
-    push_unknown(&mut text, bound)?;
-    Ok(Answer { status: 0, text })
 }
 
 fn push_won(text: &mut Vec<u8>, bound: u32, machine: &Machine) -> Result<(), AllocError>

@@ -1,7 +1,9 @@
 //! The answers of orders.
 
-ghost use Rattle.std.specs.Prelude.{◌≡◌, ◌≤◌, [], IfOk, IfErr};
+ghost use Rattle.std.specs.Prelude.{◌≡◌, ℕ, ◌<◌, ◌≤◌, [], length, IfOk, IfErr};
 ghost use Rattle.bonsai_words.specs.Order.{IsInRange, AreBounds, IsWithin};
+ghost use Rattle.bonsai_words.specs.Ordered.{asked};
+ghost use Rattle.bonsai_words.specs.Ordered.Asked.{synth, downset, check, eval};
 ghost use Rattle.bonsai_run.specs.Answers.{IsAnswer};
 ghost use Rattle.bonsai_run.specs.Faults.{Blames};
 ghost use Rattle.bonsai_run.specs.Runs.{first_name, second_name};
@@ -22,7 +24,7 @@ use word_core::Player;
 /// What an order asks for.
 pub fn answer_of<H: Shelf>(alloc: Global, order: &Order, shelf: &mut H) -> Result<Answer, Fault>
     requires { IsInRange order.now }
-    ensures answer { IfOk result (λ a. IsAnswer a.status a.text.items) }
+    ensures answer { IfOk result (λ a. IsAnswer (asked order.now) a.status a.text.items) }
     ensures blames { IfErr result (Blames (H.faults shelf.old) (H.faults shelf.new) (H.last_failed shelf.new) (first_name order.now) (second_name order.now)) }
 {
     match order {
@@ -63,6 +65,7 @@ pub fn answer_of<H: Shelf>(alloc: Global, order: &Order, shelf: &mut H) -> Resul
 }
 
 /// The verdict, with the bound and the machine.
+#[tactic(auto, using(crate::proofs::Answering::is_decided))]
 fn synth<H: Shelf>(
     alloc: Global,
     shelf: &mut H,
@@ -70,8 +73,9 @@ fn synth<H: Shelf>(
     bounds: (u32, u32, u32),
     as_written: bool,
 ) -> Result<Answer, Fault>
-    requires { AreBounds bounds }
-    ensures answer { IfOk result (λ a. IsAnswer a.status a.text.items) }
+    requires named { 0 < length name.now }
+    requires bounds { AreBounds bounds }
+    ensures answer { IfOk result (λ a. (workers : ℕ) → IsAnswer (synth name.now bounds workers as_written) a.status a.text.items) }
     ensures blames { IfErr result (Blames (H.faults shelf.old) (H.faults shelf.new) (H.last_failed shelf.new) name.now []) }
 {
     let spec = specification(alloc, shelf, name, "", as_written)?;
@@ -89,8 +93,9 @@ fn downset<H: Shelf>(
     bound: u32,
     as_written: bool,
 ) -> Result<Answer, Fault>
-    requires { bound ≤ 10000 }
-    ensures answer { IfOk result (λ a. IsAnswer a.status a.text.items) }
+    requires named { 0 < length name.now }
+    requires bound { bound ≤ 10000 }
+    ensures answer { IfOk result (λ a. IsAnswer (downset name.now player bound as_written) a.status a.text.items) }
     ensures blames { IfErr result (Blames (H.faults shelf.old) (H.faults shelf.new) (H.last_failed shelf.new) name.now []) }
 {
     let spec = specification(alloc, shelf, name, "", as_written)?;
@@ -106,7 +111,9 @@ fn check<H: Shelf>(
     bound: u32,
     as_written: bool,
 ) -> Result<Answer, Fault>
-    ensures answer { IfOk result (λ a. IsAnswer a.status a.text.items) }
+    requires named { 0 < length name.now }
+    requires other { 0 < length machine.now }
+    ensures answer { IfOk result (λ a. IsAnswer (check name.now machine.now bound as_written) a.status a.text.items) }
     ensures blames { IfErr result (Blames (H.faults shelf.old) (H.faults shelf.new) (H.last_failed shelf.new) name.now machine.now) }
 {
     let spec = specification(alloc, shelf, name, machine, as_written)?;
@@ -122,7 +129,9 @@ fn eval<H: Shelf>(
     lasso: &str,
     as_written: bool,
 ) -> Result<Answer, Fault>
-    ensures answer { IfOk result (λ a. IsAnswer a.status a.text.items) }
+    requires named { 0 < length name.now }
+    requires other { 0 < length lasso.now }
+    ensures answer { IfOk result (λ a. IsAnswer (eval name.now lasso.now as_written) a.status a.text.items) }
     ensures blames { IfErr result (Blames (H.faults shelf.old) (H.faults shelf.new) (H.last_failed shelf.new) name.now lasso.now) }
 {
     let spec = specification(alloc, shelf, name, lasso, as_written)?;

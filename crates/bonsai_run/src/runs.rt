@@ -1,6 +1,8 @@
 //! The top call.
 
-ghost use Rattle.std.specs.Prelude.{◌≡◌, ◌≤◌, ◌++◌, ℕ, List, [], Some, codes};
+ghost use Rattle.std.specs.Prelude.{◌≡◌, ◌≤◌, ◌++◌, ◌⊎◌, ℕ, List, [], Some, None, map, codes, string_bytes};
+ghost use Rattle.std.specs.List.{Contains};
+ghost use Rattle.bonsai_words.specs.Ordered.{Asked, ordered};
 ghost use Rattle.shelf_io.specs.Faults.{Rose};
 ghost use Rattle.shelf_io.specs.Written.{appended, AppendsPrefix};
 ghost use Rattle.bonsai_run.specs.Answers.{IsAnswer};
@@ -24,6 +26,7 @@ use std::alloc::Global;
 /// 10, 20 and 30 are the verdicts of `synth`, 0 and 40 what the other commands find; 1 comes only where `out` failed, 2
 /// where the words are no order, 3 only where the shelf failed, 4 where a text is refused, 5 where a limit is
 /// passed, 6 where memory ran out. With 2 to 6 nothing goes to `out`.
+#[tactic(auto, using(crate::proofs::Names::name_among))]
 pub fn run_alone<H: Shelf, O: Sink, E: Sink>(
     alloc: Global,
     words: &[String],
@@ -31,10 +34,12 @@ pub fn run_alone<H: Shelf, O: Sink, E: Sink>(
     out: &mut O,
     err: &mut E,
 ) -> u8
-    ensures answered { (IsFaultStatus result → ⊥) → (text : List ℕ) × IsAnswer result text × (O.written out.new ≡ appended (O.written out.old) text) }
+    ensures usage { result ≡ 2 → ordered (map string_bytes words.now) ≡ None }
+    ensures no_order { ordered (map string_bytes words.now) ≡ None → (result ≡ 2) ⊎ (result ≡ 6) }
+    ensures answered { (IsFaultStatus result → ⊥) → (order : Asked) × (text : List ℕ) × (ordered (map string_bytes words.now) ≡ Some order) × IsAnswer order result text × (O.written out.new ≡ appended (O.written out.old) text) }
     ensures quiet { (IsFaultStatus result → ⊥) → E.written err.new ≡ E.written err.old }
-    ensures unwritten { result ≡ 1 → Rose (O.faults out.old) (O.faults out.new) × ((status : ℕ) × (text : List ℕ) × IsAnswer status text × AppendsPrefix (O.written out.old) (O.written out.new) text) }
-    ensures unread { result ≡ 3 → Rose (H.faults shelf.old) (H.faults shelf.new) × ((name : List ℕ) × (H.last_failed shelf.new ≡ Some name) × Tells (E.written err.old) (E.written err.new) (E.faults err.old) (E.faults err.new) (codes "bonsai: cannot read " ++ name ++ codes "\n")) }
+    ensures unwritten { result ≡ 1 → Rose (O.faults out.old) (O.faults out.new) × ((order : Asked) × (status : ℕ) × (text : List ℕ) × (ordered (map string_bytes words.now) ≡ Some order) × IsAnswer order status text × AppendsPrefix (O.written out.old) (O.written out.new) text) }
+    ensures unread { result ≡ 3 → Rose (H.faults shelf.old) (H.faults shelf.new) × ((name : List ℕ) × Contains (map string_bytes words.now) name × (H.last_failed shelf.new ≡ Some name) × Tells (E.written err.old) (E.written err.new) (E.faults err.old) (E.faults err.new) (codes "bonsai: cannot read " ++ name ++ codes "\n")) }
     ensures kept { 2 ≤ result → result ≤ 6 → O.written out.new ≡ O.written out.old }
     ensures told { IsFaultStatus result → (name other : List ℕ) × (fault : Fault) × (result ≡ status_of fault) × Tells (E.written err.old) (E.written err.new) (E.faults err.old) (E.faults err.new) (fault_text name other fault) }
 {
@@ -51,7 +56,7 @@ pub fn run_alone<H: Shelf, O: Sink, E: Sink>(
 
 /// Writes an answer, and says its status or that it can't be written.
 fn tell_answer<O: Sink, E: Sink>(answer: &Answer, out: &mut O, err: &mut E) -> u8
-    requires { IsAnswer answer.now.status answer.now.text.items }
+    requires { (order : Asked) × IsAnswer order answer.now.status answer.now.text.items }
     ensures answered { (IsFaultStatus result → ⊥) → (result ≡ answer.now.status) × (O.written out.new ≡ appended (O.written out.old) answer.now.text.items) }
     ensures quiet { (IsFaultStatus result → ⊥) → E.written err.new ≡ E.written err.old }
     ensures unwritten { IsFaultStatus result → (result ≡ 1) × Rose (O.faults out.old) (O.faults out.new) × AppendsPrefix (O.written out.old) (O.written out.new) answer.now.text.items }

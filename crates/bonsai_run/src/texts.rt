@@ -1,9 +1,9 @@
 //! The texts that an order names.
 
-ghost use Rattle.std.specs.Prelude.{◌≡◌, ◌≤◌, length, vec_len, IfOk, IfErr, true};
+ghost use Rattle.std.specs.Prelude.{◌≡◌, ◌<◌, ◌≤◌, length, vec_len, IfOk, IfErr, true};
 ghost use Rattle.ltl_form.specs.Formula.{signals_below};
 ghost use Rattle.tlsf_basic.specs.Specification.{signal_count};
-ghost use Rattle.bonsai_run.specs.Faults.{Blames};
+ghost use Rattle.bonsai_run.specs.Faults.{Blames, named};
 
 use crate::faults::{Fault, Source};
 use shelf_io::{Shelf, ShelfError};
@@ -21,6 +21,7 @@ pub fn text_of<H: Shelf>(
     other: &str,
     source: Source,
 ) -> Result<Vec<u8>, Fault>
+    requires { 0 < length (named name.now other.now source) }
     ensures short { IfOk result (λ text. vec_len text ≤ 1048576) }
     ensures blames { IfErr result (Blames (H.faults shelf.old) (H.faults shelf.new) (H.last_failed shelf.new) name.now other.now) }
     ensures later { H.faults shelf.old ≤ H.faults shelf.new }
@@ -49,6 +50,7 @@ pub fn specification<H: Shelf>(
     other: &str,
     as_written: bool,
 ) -> Result<Spec, Fault>
+    requires { 0 < length name.now }
     ensures few { IfOk result (λ spec. signal_count spec.names ≤ 40) }
     ensures numbered { IfOk result (λ spec. signals_below (signal_count spec.names) spec.formula ≡ true) }
     ensures blames { IfErr result (Blames (H.faults shelf.old) (H.faults shelf.new) (H.last_failed shelf.new) name.now other.now) }

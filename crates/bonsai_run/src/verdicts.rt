@@ -5,6 +5,7 @@ ghost use Rattle.dual_game.specs.Bounds.{AreBounds};
 ghost use Rattle.ltl_form.specs.Formula.{signals_below};
 ghost use Rattle.tlsf_basic.specs.Specification.{signal_count};
 ghost use Rattle.word_core.specs.declared.names.Player.TheVariants.{System, Environment};
+ghost use Rattle.bonsai_run.specs.Answers.{IsVerdict};
 ghost use Rattle.bonsai_run.specs.Faults.{IsInner};
 
 use crate::faults::Fault;
@@ -32,7 +33,8 @@ pub fn decide(alloc: Global, spec: &Spec, bounds: Bounds) -> Result<Verdict, Fau
     requires last { bounds.last ≤ 10000 }
     requires few { signal_count spec.now.names ≤ 40 }
     requires numbered { signals_below (signal_count spec.now.names) spec.now.formula ≡ true }
-    ensures { IfErr result IsInner }
+    ensures verdict { IfOk result (IsVerdict bounds.first bounds.last) }
+    ensures fault { IfErr result IsInner }
 {
     let pair = automata(alloc, spec)?;
     let names = &spec.names;
@@ -56,6 +58,7 @@ fn try_bounds(
 ) -> Result<Verdict, AllocError>
     requires bounds { AreBounds bounds }
     requires last { bounds.last ≤ 10000 }
+    ensures { IfOk result (IsVerdict bounds.first bounds.last) }
 {
     let mut bound = bounds.first;
     let mut games = (system, environment);

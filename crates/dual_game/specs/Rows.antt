@@ -1,4 +1,4 @@
--- Tmp.
+-- Rows of a game that have the numbers of an automaton's edges.
 use Rattle.std.specs.Prelude.{◌≡◌, ℕ, ◌+◌, ◌<◌, ◌^◌, ◌&&◌, Bool, List, [], ◌∷◌, length, max, nat_eq, if◌then◌else◌}
 use Rattle.word_core.specs.declared.automata.Edge.{Edge}
 use Rattle.word_core.specs.Automaton.{AutomatonData, edges_at}

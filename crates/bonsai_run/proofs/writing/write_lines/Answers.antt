@@ -1,6 +1,6 @@
-use Rattle.std.proofs.Common.{◌≡◌, ap, sym, ◌∙◌, arith}
-use Rattle.shelf_io.specs.Written.{appended, appended-nil}
-use Rattle.bonsai_run.proofs.Appends.{lines_on, begun_stops, begun_goes_on}
+use Rattle.std.proofs.Common.{sym, arith}
+use Rattle.shelf_io.specs.Written.{appended-nil}
+use Rattle.bonsai_run.proofs.Appends.{begun_stops, begun_goes_on}
 use Rattle.bonsai_run.proofs.writing.write_lines.Goals as goal
 
 pub loop-done-init : goal.loop-done-init
