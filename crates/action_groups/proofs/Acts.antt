@@ -1,7 +1,7 @@
 -- Actions have the rows of their letters.
-use Rattle.std.proofs.Common.{◌≡◌, ℕ, zero, suc, ◌+◌, ◌-◌, ◌*◌, ◌<◌, ◌≤◌, ◌^◌, ◌⊎◌, inl, inr, Bool, true, false, List, [], ◌∷◌, ◌++◌, length, get_or, map, refl, sym, ap, ◌∙◌, subst, arith}
+use Rattle.std.proofs.Common.{◌≡◌, ℕ, ◌+◌, ◌-◌, ◌*◌, ◌<◌, ◌≤◌, ◌^◌, ◌⊎◌, inl, inr, Bool, List, [], ◌∷◌, ◌++◌, length, get_or, map, sym, ap, ◌∙◌, subst, arith}
 use Rattle.std.specs.Prelude.{ℤ, Option, Vec}
-use Rattle.std.specs.List.{All, filter}
+use Rattle.std.specs.List.{filter}
 use Rattle.std.specs.declared.alloc.Global.{Global}
 use Rattle.std.proofs.lemmas.Bool.{cases_lt}
 use Rattle.std.proofs.lemmas.List.{get_or_append_left, get_or_push}
@@ -10,7 +10,7 @@ use Rattle.word_core.specs.declared.names.Kind.{Kind}
 use Rattle.word_core.specs.declared.names.Kind.TheVariants.{First, Second}
 use Rattle.word_core.specs.declared.names.Player.{Player}
 use Rattle.word_core.specs.declared.names.Player.TheVariants.{System, Environment}
-use Rattle.word_core.specs.Automaton.{AutomatonData, edges_at}
+use Rattle.word_core.specs.Automaton.{AutomatonData}
 use Rattle.word_core.specs.Cube.{holds, IsCube}
 use Rattle.word_core.specs.Tree.{label_of}
 use Rattle.game_form.specs.declared.actions.Step.{Step}
@@ -25,7 +25,7 @@ use Rattle.action_groups.specs.Lists.{items_at}
 use Rattle.action_groups.specs.Numbers.{steps_number, step_of}
 use Rattle.action_groups.specs.Rank.{IsNumbering}
 use Rattle.action_groups.specs.Rows.{HasEdges, HasRows}
-use Rattle.action_groups.specs.Tests.{HasEffects, allowing, allows_from, IsLetterOf}
+use Rattle.action_groups.specs.Tests.{HasEffects, allowing, allows_from}
 use Rattle.action_groups.proofs.Allowed.{filter_same}
 use Rattle.action_groups.proofs.Letters.{allowed_is_held, inputs_first, outputs_first}
 

@@ -1,5 +1,5 @@
 -- The edges that allow the signals of a valuation, split by a signal.
-use Rattle.std.proofs.Common.{◌≡◌, ℕ, zero, suc, ◌+◌, ◌-◌, ◌/◌, ◌%◌, ◌<◌, ◌≤◌, ◌^◌, Bool, true, false, cond, eqb, ◌&&◌, ◌||◌, List, [], ◌∷◌, length, get_or, map, ◌⊎◌, inl, inr, refl, sym, ap, ◌∙◌, subst, arith}
+use Rattle.std.proofs.Common.{◌≡◌, ℕ, suc, ◌+◌, ◌-◌, ◌<◌, ◌≤◌, Bool, true, false, cond, eqb, ◌&&◌, ◌||◌, List, [], ◌∷◌, length, get_or, map, ◌⊎◌, inl, inr, refl, sym, ap, ◌∙◌, arith}
 use Rattle.std.specs.Prelude.{nat_eq, Vec}
 use Rattle.std.specs.Int.{bit_at}
 use Rattle.std.specs.List.{All, filter}
@@ -10,7 +10,7 @@ use Rattle.std.proofs.lemmas.Nat.Bits.{bit_at-lt}
 use Rattle.std.proofs.lemmas.Bool.Decides.{Decides-eqb}
 use Rattle.word_core.specs.declared.cubes.Cube.{Cube}
 use Rattle.word_core.specs.declared.branches.Branch.{Branch}
-use Rattle.word_core.specs.Tree.{label_of, side}
+use Rattle.word_core.specs.Tree.{label_of}
 use Rattle.action_groups.specs.declared.orders.Order.{Order}
 use Rattle.action_groups.specs.declared.ways.Way.{Way}
 use Rattle.action_groups.specs.Labels.{IsSplitOf}

@@ -1,8 +1,6 @@
 -- The numbers of steps between states.
-use Rattle.std.specs.Prelude.{◌≡◌, ℕ, ◌<◌, ◌&&◌, ◌⊎◌, Bool, true, List, [], ◌∷◌, length, map, max, nat_eq, if◌then◌else◌, slice_index_or}
-use Rattle.std.specs.List.{All, filter}
+use Rattle.std.specs.Prelude.{◌≡◌, ℕ, ◌&&◌, Bool, List, [], ◌∷◌, max, nat_eq, if◌then◌else◌}
 use Rattle.action_groups.specs.declared.ways.Way.{Way}
-use Rattle.action_groups.specs.Way.{IsStep, IsBefore}
 
 abbrev pub mark_number : Bool → ℕ
 mark_number marked = if marked then 2 else 1

@@ -1,7 +1,6 @@
 -- Edges with the states that they leave, and what they do.
 use Rattle.std.specs.Prelude.{◌≡◌, ℕ, ◌<◌, ◌⊎◌, Bool, true, List}
 use Rattle.std.specs.List.{All, AllPairs}
-use Rattle.word_core.specs.Cube.{IsCube}
 use Rattle.action_groups.specs.declared.ways.Way.{Way}
 
 -- from one of so many states to another

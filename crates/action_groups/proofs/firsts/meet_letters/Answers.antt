@@ -1,4 +1,4 @@
-use Rattle.std.proofs.Common.{◌≡◌, ℕ, ◌<◌, ◌≤◌, ◌+◌, ◌^◌, ◌++◌, ◌∙◌, List, [], ◌∷◌, length, take, refl, sym, ap, subst, arith}
+use Rattle.std.proofs.Common.{◌≡◌, ℕ, ◌<◌, ◌≤◌, ◌+◌, ◌^◌, ◌++◌, ◌∙◌, List, [], ◌∷◌, length, refl, sym, ap, subst, arith}
 use Rattle.std.specs.List.{All}
 use Rattle.std.proofs.lemmas.List.{length_push, take_all}
 use Rattle.std.proofs.lemmas.List.Elements.{All-push}
@@ -18,8 +18,7 @@ loop-value-preserved c =
     let P : ℕ × ℕ → Type 0 = λ x. (x.0 < 2 ^ 64) × (x.1 < c.args.count) in
     let ranged : P new = (c.letter.ensures, (c.requires.options i (0, 0) c.loop-value-test.true).1) in
     let long : length now ≡ length met + 1 = ap (λ (l : List (ℕ × ℕ)). length l) pushed ∙ length_push met new in
-    let size : length met ≡ length c.args.met.now.items + i = c.loop-value.invariant.1 in
-    (
+    let size : length met ≡ length c.args.met.now.items + i = c.loop-value.invariant.1 in (
       subst (All P) (sym pushed) (All-push P met new c.loop-value.invariant.0 ranged),
       omega arith,
       λ n h. subst (λ l. HasNumber l n) (sym pushed) (has_left met (new ∷ []) n (c.loop-value.invariant.2 n h)),

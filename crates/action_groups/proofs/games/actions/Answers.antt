@@ -31,14 +31,13 @@ loop-label-preserved c =
     let lt : i < length order = subst (λ (l : List (ℕ × ℕ)). i < length l) c.deref-label-items.ensures.value c.loop-label-test.true in
     let label : q.1 < length effects = subst (λ (x : ℕ × ℕ). x.1 < length effects) (sym same) (c.requires.labels.order i (0, 0) lt).1 in
     let read : c.index-as_slice-label.result ≡ get_or effects q.1 c.index-as_slice-label.result =
-        subst (λ (l : List (Vec (ℕ × ℕ × Bool) Global)). c.index-as_slice-label.result ≡ get_or l q.1 c.index-as_slice-label.result) c.as_slice.ensures.keys c.index-as_slice-label.is in
+    subst (λ (l : List (Vec (ℕ × ℕ × Bool) Global)). c.index-as_slice-label.result ≡ get_or l q.1 c.index-as_slice-label.result) c.as_slice.ensures.keys c.index-as_slice-label.is in
     let there : items_at effects q.1 ≡ c.index-as_slice-label.result.items = read_items effects q.1 c.index-as_slice-label.result label read in
     let steps : c.deref.result.now ≡ items_at effects p.1 = c.deref.ensures.value ∙ sym there ∙ ap (λ (x : ℕ × ℕ). items_at effects x.1) same in
     let own : (a b : ℕ) → a < c.args.count → number (row_at new a) b ≡ steps_number (items_at effects p.1) a b = λ a b inside.
-        (let within : a < length new = omega (arith, c.in_ok-action_of.ensures.rows.0) in
-        c.in_ok-action_of.ensures.numbers a b within ∙ ap (λ (l : List (ℕ × ℕ × Bool)). steps_number l a b) steps) in
-    let P : List (List Step) → Type 0 = AreRows c.args.count in
-    (
+    (let within : a < length new = omega (arith, c.in_ok-action_of.ensures.rows.0) in
+    c.in_ok-action_of.ensures.numbers a b within ∙ ap (λ (l : List (ℕ × ℕ × Bool)). steps_number l a b) steps) in
+    let P : List (List Step) → Type 0 = AreRows c.args.count in (
       actions_more c.args.count effects i order actions now new c.loop-label.invariant.1 pushed own c.loop-label.invariant.0,
       ap (λ (l : List (List (List Step))). length l) pushed ∙ length_push actions new ∙ ap (λ n. n + 1) c.loop-label.invariant.1,
       subst (All P) (sym pushed) (All-push P actions new c.loop-label.invariant.2 c.in_ok-action_of.ensures.rows),
@@ -55,7 +54,7 @@ action_of-requires-clause-steps c =
     let lt : i < length order = subst (λ (l : List (ℕ × ℕ)). i < length l) c.deref-label-items.ensures.value c.loop-label-test.true in
     let label : q.1 < length effects = subst (λ (x : ℕ × ℕ). x.1 < length effects) (sym same) (c.requires.labels.order i (0, 0) lt).1 in
     let read : c.index-as_slice-label.result ≡ get_or effects q.1 c.index-as_slice-label.result =
-        subst (λ (l : List (Vec (ℕ × ℕ × Bool) Global)). c.index-as_slice-label.result ≡ get_or l q.1 c.index-as_slice-label.result) c.as_slice.ensures.keys c.index-as_slice-label.is in
+    subst (λ (l : List (Vec (ℕ × ℕ × Bool) Global)). c.index-as_slice-label.result ≡ get_or l q.1 c.index-as_slice-label.result) c.as_slice.ensures.keys c.index-as_slice-label.is in
     let there : AreSteps c.args.count c.index-as_slice-label.result.items =
-        subst (λ (v : Vec (ℕ × ℕ × Bool) Global). AreSteps c.args.count v.items) (sym read) (c.requires.effects q.1 c.index-as_slice-label.result label) in
+    subst (λ (v : Vec (ℕ × ℕ × Bool) Global). AreSteps c.args.count v.items) (sym read) (c.requires.effects q.1 c.index-as_slice-label.result label) in
     subst (AreSteps c.args.count) (sym c.deref.ensures.value) there

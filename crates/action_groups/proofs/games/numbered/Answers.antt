@@ -37,8 +37,8 @@ returns-clause-rows c =
       firsts = c.in_ok-relabelled-2.field-0;
     } in
     let letter : (bits : ℕ) → label_of p.letters.items bits ≡ get_or c.in_ok-labels.labels.numbers.items (label_of letters bits) 0 = λ bits.
-        c.in_ok-relabelled.ensures.labels bits
-        ∙ ap (λ (ns : List ℕ). get_or ns (label_of c.deref.result.now bits) 0) c.deref-2.ensures.value
-        ∙ ap (λ (l : List Branch). get_or c.in_ok-labels.labels.numbers.items (label_of l bits) 0) c.deref.ensures.value in
+    c.in_ok-relabelled.ensures.labels bits
+    ∙ ap (λ (ns : List ℕ). get_or ns (label_of c.deref.result.now bits) 0) c.deref-2.ensures.value
+    ∙ ap (λ (l : List Branch). get_or c.in_ok-labels.labels.numbers.items (label_of l bits) 0) c.deref.ensures.value in
     effect_rows c.args.count letters c.args.letters.effects.keys c.args.firsts.met.items c.in_ok-labels.labels.order.items c.in_ok-labels.labels.numbers.items p
     c.requires.all_met c.in_ok-labels.ensures.numbering letter c.in_ok-actions.ensures.numbers

@@ -1,4 +1,4 @@
-use Rattle.std.proofs.Common.{◌≡◌, ℕ, List, length, ap, sym, subst}
+use Rattle.std.proofs.Common.{List, length, subst}
 use Rattle.std.proofs.lemmas.Result.{IfOk-weaker}
 use Rattle.word_core.specs.declared.automata.Edge.{Edge}
 use Rattle.action_groups.specs.declared.games.Parts.{Parts}
@@ -17,6 +17,6 @@ returns-clause-rows c =
     let P : Parts → Type 0 = HasEffectRows (length c.states-count.result.now) nodes effects in
     let Q : Parts → Type 0 = HasPartRows c.args.order.inputs c.args.order.outputs c.args.order.inputs_first c.args.a.now in
     let step : (p : Parts) → P p → Q p = λ p h.
-        part_rows c.args.order c.args.a.now nodes effects ways p c.requires.signals c.in_ok-ways.ensures.exact exact
-        (subst (λ (l : List (List Edge)). HasEffectRows (length l) nodes effects p) c.states-count.ensures.value h) in
+    part_rows c.args.order c.args.a.now nodes effects ways p c.requires.signals c.in_ok-ways.ensures.exact exact
+    (subst (λ (l : List (List Edge)). HasEffectRows (length l) nodes effects p) c.states-count.ensures.value h) in
     IfOk-weaker _ P Q step c.numbered.ensures.rows

@@ -53,9 +53,9 @@ returns-clause-exact t c =
     let size : c.len-at.result ≡ length low = grind (arith, common_steps) in
     let split = split_of c.args.place (c.len-at.result - 1) low high now some (ap (λ n. n - 1) size) c.in_ok-high.ensures.kept c.in_ok-push_split.ensures.split in
     let unset : c.deref-2.result.now ≡ filter (λ w. allows w.edge.cube (signal_of c.args.order c.args.place) 0) ways =
-        c.deref-2.ensures.value ∙ c.in_ok-unset.ensures.value ∙ ap (λ s. filter (λ w. allows w.edge.cube s 0) ways) c.signal-signal.ensures.value in
+    c.deref-2.ensures.value ∙ c.in_ok-unset.ensures.value ∙ ap (λ s. filter (λ w. allows w.edge.cube s 0) ways) c.signal-signal.ensures.value in
     let set : c.deref-3.result.now ≡ filter (λ w. allows w.edge.cube (signal_of c.args.order c.args.place) 1) ways =
-        c.deref-3.ensures.value ∙ c.in_ok-set.ensures.value ∙ ap (λ s. filter (λ w. allows w.edge.cube s 1) ways) c.signal-signal.ensures.value in
+    c.deref-3.ensures.value ∙ c.in_ok-set.ensures.value ∙ ap (λ s. filter (λ w. allows w.edge.cube s 1) ways) c.signal-signal.ensures.value in
     split_effects c.args.order c.args.place (c.args.place + 1) low high now before effects ways c.deref-2.result.now c.deref-3.result.now refl within split unset set
     (label_below (c.args.order.inputs + c.args.order.outputs) (length before) low wide c.in_ok-low.ensures.nodes some)
     c.in_ok-high.ensures.lists c.in_ok-low.ensures.exact c.in_ok-high.ensures.exact

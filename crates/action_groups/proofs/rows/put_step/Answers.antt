@@ -11,8 +11,8 @@ returns-clause-numbers c =
     let old = c.args.steps.now.items in
     let fits : SFits w16 c.number_of.result = grind (arith, ints) in
     let pushed : c.push.new.self.items ≡ old ++ record { to = c.args.to; number = c.number_of.result } ∷ [] =
-        c.in_ok-push.ensures.items ∙ ap (λ (z : ℤ). old ++ record { to = c.args.to; number = z } ∷ []) (to_z-of_z w16 c.number_of.result fits) in
+    c.in_ok-push.ensures.items ∙ ap (λ (z : ℤ). old ++ record { to = c.args.to; number = z } ∷ []) (to_z-of_z w16 c.number_of.result fits) in
     λ p.
-        ap (λ (l : List Step). number l p) pushed
-        ∙ number_pushed c.args.next old (record { to = c.args.to; number = c.number_of.result }) p c.requires.ends c.requires.behind
-        ∙ ap (λ n. max (number old p) (if nat_eq c.args.to p then n else 0)) c.number_of.ensures.value
+    ap (λ (l : List Step). number l p) pushed
+    ∙ number_pushed c.args.next old (record { to = c.args.to; number = c.number_of.result }) p c.requires.ends c.requires.behind
+    ∙ ap (λ n. max (number old p) (if nat_eq c.args.to p then n else 0)) c.number_of.ensures.value

@@ -1,4 +1,3 @@
-use Rattle.std.proofs.Common.{◌≤◌, length}
 use Rattle.game_form.specs.Game.{IsRow}
 use Rattle.action_groups.proofs.RowNumbers.{IsRowUpto}
 use Rattle.action_groups.proofs.rows.row_of.Given as goal

@@ -1,4 +1,4 @@
-use Rattle.std.proofs.Common.{◌≡◌, ℕ, ◌≤◌, ◌∙◌, Bool, List, length, map, take, sym, ap, subst, arith}
+use Rattle.std.proofs.Common.{◌≡◌, ℕ, ◌≤◌, ◌∙◌, Bool, List, length, map, sym, ap, subst, arith}
 use Rattle.std.specs.Prelude.{Vec}
 use Rattle.std.specs.declared.alloc.Global.{Global}
 use Rattle.std.proofs.lemmas.List.{take_all}
@@ -26,8 +26,8 @@ returns-clause-numbers c =
     let P : Vec (ℕ × ℕ × Bool) Global → Type 0 = λ v. HasSameNumbers v.items c.deref.result.now in
     let Q : Vec (ℕ × ℕ × Bool) Global → Type 0 = λ v. HasSameNumbers v.items (map step_of ways) in
     let step : (v : Vec (ℕ × ℕ × Bool) Global) → P v → Q v = λ v h q p.
-        h q p
-        ∙ ap (λ (l : List (ℕ × ℕ × Bool)). steps_number l q p) c.deref.ensures.value
-        ∙ numbers_permuted steps sorted c.sort.ensures.permutation q p
-        ∙ ap (λ (l : List (ℕ × ℕ × Bool)). steps_number l q p) all in
+    h q p
+    ∙ ap (λ (l : List (ℕ × ℕ × Bool)). steps_number l q p) c.deref.ensures.value
+    ∙ numbers_permuted steps sorted c.sort.ensures.permutation q p
+    ∙ ap (λ (l : List (ℕ × ℕ × Bool)). steps_number l q p) all in
     IfOk-weaker _ P Q step c.marked_once.ensures.numbers

@@ -1,4 +1,4 @@
-use Rattle.std.proofs.Common.{◌≡◌, ℕ, ◌<◌, ◌+◌, ◌++◌, ◌∙◌, Bool, List, [], ◌∷◌, length, sym, ap, subst, arith}
+use Rattle.std.proofs.Common.{◌≡◌, ℕ, ◌+◌, ◌++◌, ◌∙◌, Bool, [], ◌∷◌, sym, ap, subst}
 use Rattle.std.specs.Prelude.{Vec}
 use Rattle.std.specs.List.{All}
 use Rattle.std.specs.declared.alloc.Global.{Global}
@@ -16,8 +16,7 @@ loop-i-preserved c =
     let P : ℕ × ℕ × Bool → Type 0 = IsStep c.args.count in
     elim c.if-is_last.branch [
       | then-is_last+in_ok-push w ↦ (
-          let pushed : c.if-is_last.once.items ≡ once ++ step_at steps i ∷ [] = ap (λ (v : Vec (ℕ × ℕ × Bool) Global). v.items) w.once-is ∙ w.in_ok-push.ensures.items in
-          (
+          let pushed : c.if-is_last.once.items ≡ once ++ step_at steps i ∷ [] = ap (λ (v : Vec (ℕ × ℕ × Bool) Global). v.items) w.once-is ∙ w.in_ok-push.ensures.items in (
             subst (All P) (sym pushed) (All-push P once (step_at steps i) c.loop-i.invariant.0 (c.requires.steps i (0, 0, _) c.loop-i-test.true)),
             once_push steps i once c.if-is_last.once.items c.requires.sorted c.loop-i-test.true (c.is_last.ensures.last w.if-is_last.true) pushed c.loop-i.invariant.1,
           ))

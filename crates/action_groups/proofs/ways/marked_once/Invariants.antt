@@ -1,7 +1,5 @@
-use Rattle.std.proofs.Common.{◌≡◌, ℕ, ◌≤◌, ◌<◌, Bool, max, length, get_or, drop}
-use Rattle.std.specs.List.{All, AllPairs}
-use Rattle.action_groups.specs.Numbers.{steps_number}
-use Rattle.action_groups.specs.Way.{IsStep, IsBefore}
+use Rattle.std.specs.List.{All}
+use Rattle.action_groups.specs.Way.{IsStep}
 use Rattle.action_groups.proofs.Steps.{AreOnce}
 use Rattle.action_groups.proofs.ways.marked_once.Given as goal
 

@@ -1,5 +1,4 @@
-use Rattle.std.proofs.Common.{◌≡◌, ◌<◌, ◌≤◌, ◌%◌, ◌^◌, ◌++◌, ◌∙◌, List, [], length, map, ap, subst, arith}
-use Rattle.std.proofs.Math.Nat.{mod-eq_of_lt}
+use Rattle.std.proofs.Common.{◌≡◌, ◌<◌, ◌≤◌, ◌++◌, List, [], length, map, subst}
 use Rattle.word_core.specs.Automaton.{edges_at}
 use Rattle.action_groups.specs.Rows.{way_from}
 use Rattle.word_core.specs.declared.automata.Edge.{Edge}
