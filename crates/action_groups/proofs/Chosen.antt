@@ -15,7 +15,8 @@ use Rattle.game_form.specs.Letters.{HasLetters}
 use Rattle.action_groups.specs.declared.games.Parts.{Parts}
 use Rattle.action_groups.specs.Part.{ArePairs}
 use Rattle.action_groups.specs.Labels.{IsLabelled, pair_at}
-use Rattle.action_groups.specs.Options.{options_at, HasOptions, AreOptionsOf}
+use Rattle.action_groups.specs.Lists.{items_at}
+use Rattle.action_groups.specs.Options.{HasOptions, AreOptionsOf}
 use Rattle.action_groups.specs.Rank.{IsNumbering}
 use Rattle.action_groups.specs.Listing.{with_numbers, class_from}
 use Rattle.action_groups.specs.Parts.{HasLetterParts, listed_at}
@@ -59,8 +60,8 @@ module _
   meets : (c second : ℕ) → c < length order → Meets (class_from lists labels (pair_at order c)) second
   meets c second lt =
       let q : ℕ × ℕ = pair_at order c in
-      let options : List (ℕ × ℕ) = options_at lists q.1 in
-      let own : AreOptionsOf width q.0 letters options = subst (λ l. AreOptionsOf width q.0 letters (options_at lists l)) (least_label c lt) (chosen q.0 (within c (0, 0) lt).0) in
+      let options : List (ℕ × ℕ) = items_at lists q.1 in
+      let own : AreOptionsOf width q.0 letters options = subst (λ l. AreOptionsOf width q.0 letters (items_at lists l)) (least_label c lt) (chosen q.0 (within c (0, 0) lt).0) in
       let w = own.all second in
       let below : w.0 < length options = w.1 in (
         w.0,
@@ -70,9 +71,9 @@ module _
             ∙ sym (letter (q.0 + second * 2 ^ width)),
       )
 
-  agrees : (first : ℕ) → first < 2 ^ width → Agrees first (record { least = (pair_at order (get_or numbers (label_of firsts first) 0)).0; options = with_numbers labels (options_at lists (label_of firsts first)) })
+  agrees : (first : ℕ) → first < 2 ^ width → Agrees first (record { least = (pair_at order (get_or numbers (label_of firsts first) 0)).0; options = with_numbers labels (items_at lists (label_of firsts first)) })
   agrees first lt i below =
-      let options : List (ℕ × ℕ) = options_at lists (label_of firsts first) in
+      let options : List (ℕ × ℕ) = items_at lists (label_of firsts first) in
       let inside : i < length options = omega (arith, size options) in
       let o = option_numbered labels options i inside in
       let own = chosen first lt in
@@ -96,8 +97,8 @@ module _
     options = λ first i lt. (
         let w = place_of first in
         let number : ℕ = get_or numbers (label_of firsts first) 0 in
-        let e : record { least = (pair_at order number).0; options = with_numbers labels (options_at lists (label_of firsts first)) } ≡ class_from lists labels (pair_at order number) =
-        ap (λ l. record { least = (pair_at order number).0; options = with_numbers labels (options_at lists l) }) (sym w.1) in
+        let e : record { least = (pair_at order number).0; options = with_numbers labels (items_at lists (label_of firsts first)) } ≡ class_from lists labels (pair_at order number) =
+        ap (λ l. record { least = (pair_at order number).0; options = with_numbers labels (items_at lists l) }) (sym w.1) in
         let there : class_from lists labels (pair_at order number) ≡ listed_at p (label_of p.firsts.items first) = listed number w.0 ∙ ap (listed_at p) (sym (first_of first)) in
         subst (Agrees first) (e ∙ there) (agrees first lt) i);
   }

@@ -1,9 +1,15 @@
+pub mod Acts
+pub mod Allowed
 pub mod Chosen
+pub mod Edges
 pub mod Grown
+pub mod Letters
 pub mod Lists
 pub mod Makes
 pub mod Numbering
 pub mod Pairs
 pub mod Powers
+pub mod RowNumbers
 pub mod RowSteps
 pub mod Splits
+pub mod Steps

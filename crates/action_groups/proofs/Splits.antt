@@ -1,9 +1,10 @@
 -- Trees and their pairs, split by a signal.
-use Rattle.std.proofs.Common.{◌≡◌, ℕ, zero, suc, ◌+◌, ◌*◌, ◌/◌, ◌%◌, ◌<◌, ◌≤◌, ◌^◌, Bool, true, false, cond, eqb, List, [], ◌∷◌, ◌++◌, length, refl, sym, ap, ◌∙◌, subst, arith}
+use Rattle.std.proofs.Common.{◌≡◌, ℕ, zero, suc, ◌+◌, ◌*◌, ◌/◌, ◌%◌, ◌<◌, ◌≤◌, ◌^◌, ◌⊎◌, inl, inr, Bool, true, false, cond, eqb, List, [], ◌∷◌, ◌++◌, length, take, refl, sym, ap, ◌∙◌, subst, arith}
 use Rattle.std.specs.Prelude.{Vec}
 use Rattle.std.specs.List.{All, Contains}
 use Rattle.std.specs.declared.alloc.Global.{Global}
-use Rattle.std.proofs.lemmas.List.{get_or_append_left, get_or-append-add, length-append, length-map}
+use Rattle.std.proofs.lemmas.Bool.{cases_lt}
+use Rattle.std.proofs.lemmas.List.{get_or_append_left, get_or-append-add, length-append, length-map, length-take-le, get_or-take}
 use Rattle.std.proofs.lemmas.List.Elements.{All-append, All-map, All-weaker, All-nil, All-cons}
 use Rattle.std.proofs.lemmas.Nat.{shr-shr, div-mul-add}
 use Rattle.std.proofs.lemmas.Nat.Bits.{bit_at_cat_low}
@@ -11,7 +12,8 @@ use Rattle.std.proofs.lemmas.Bool.Decides.{Decides-eqb}
 use Rattle.word_core.specs.declared.branches.Branch.{Branch}
 use Rattle.word_core.specs.Tree.{label_of, side}
 use Rattle.action_groups.specs.Labels.{IsSplitOf, IsLabelled, HasNumber, pair_at, shifted}
-use Rattle.action_groups.specs.Options.{options_at, KeepsLists, IsOnce, AreOptionsOf, HasOptions}
+use Rattle.action_groups.specs.Lists.{items_at, KeepsLists}
+use Rattle.action_groups.specs.Options.{IsOnce, AreOptionsOf, HasOptions}
 use Rattle.action_groups.proofs.Grown.{side_by}
 
 pub has_left : (xs ys : List (ℕ × ℕ)) (n : ℕ) → HasNumber xs n → HasNumber (xs ++ ys) n
@@ -112,25 +114,25 @@ leaf_labelled place label nodes pairs h is =
     }
 
 -- the lists of options
-pub lists_self : (lists : List (Vec (ℕ × ℕ) Global)) → KeepsLists lists lists
+pub lists_self : {X : Type 0} (lists : List (Vec X Global)) → KeepsLists lists lists
 lists_self lists c lt = refl
 
-pub lists_trans : (a b c : List (Vec (ℕ × ℕ) Global)) → length a ≤ length b → KeepsLists a b → KeepsLists b c → KeepsLists a c
+pub lists_trans : {X : Type 0} (a b c : List (Vec X Global)) → length a ≤ length b → KeepsLists a b → KeepsLists b c → KeepsLists a c
 lists_trans a b c le h k at lt = k at (omega arith) ∙ h at lt
 
-pub lists_append : (lists more : List (Vec (ℕ × ℕ) Global)) → KeepsLists lists (lists ++ more)
+pub lists_append : {X : Type 0} (lists more : List (Vec X Global)) → KeepsLists lists (lists ++ more)
 lists_append [] more c lt = absurd (omega arith)
 lists_append (o ∷ lists) more zero lt = refl
 lists_append (o ∷ lists) more (suc c) lt = lists_append lists more c (omega arith)
 
 -- a first valuation at a leaf
-pub leaf_options : (width label : ℕ) (letters firsts : List Branch) (lists : List (Vec (ℕ × ℕ) Global)) (pairs : List (ℕ × ℕ)) → IsLabelled width letters pairs → IsOnce pairs (options_at lists label) → ((bits : ℕ) → label_of firsts bits ≡ label) → HasOptions width letters firsts lists
+pub leaf_options : (width label : ℕ) (letters firsts : List Branch) (lists : List (Vec (ℕ × ℕ) Global)) (pairs : List (ℕ × ℕ)) → IsLabelled width letters pairs → IsOnce pairs (items_at lists label) → ((bits : ℕ) → label_of firsts bits ≡ label) → HasOptions width letters firsts lists
 leaf_options width label letters firsts lists pairs h once leaf first lt =
-    let kept : List (ℕ × ℕ) = options_at lists label in
+    let kept : List (ℕ × ℕ) = items_at lists label in
     let P : ℕ × ℕ → Type 0 = λ p. label_of letters (first + p.0 * 2 ^ width) ≡ p.1 in
     let Q : ℕ × ℕ → Type 0 = λ p. (bits : ℕ) → bits / 2 ^ width ≡ p.0 → label_of letters bits ≡ p.1 in
     let step : (p : ℕ × ℕ) → Contains pairs p → P p = λ p w. subst Q w.2 (h.each w.0 p w.1) (first + p.0 * 2 ^ width) (upper p.0) in
-    subst (AreOptionsOf width first letters) (ap (options_at lists) (sym (leaf first)))
+    subst (AreOptionsOf width first letters) (ap (items_at lists) (sym (leaf first)))
     (record {
       each = All-weaker (Contains pairs) P step kept once.each;
       all = λ second.
@@ -164,16 +166,16 @@ split_options width place letters_low letters_high letters firsts_low firsts_hig
         let bits : ℕ = first + v * 2 ^ width in
         s bits ∙ side_by place (label_of letters_low bits) (label_of letters_high bits) bits b (ap (λ n. eqb n 1) (same_bit v) ∙ e)
 
-    go : (b : Bool) → eqb (first / 2 ^ place % 2) 1 ≡ b → AreOptionsOf width first letters (options_at lists (label_of firsts first))
+    go : (b : Bool) → eqb (first / 2 ^ place % 2) 1 ≡ b → AreOptionsOf width first letters (items_at lists (label_of firsts first))
     go true e =
-        same_options width first letters_high letters (options_at lists (label_of firsts_high first)) (options_at lists (label_of firsts first))
+        same_options width first letters_high letters (items_at lists (label_of firsts_high first)) (items_at lists (label_of firsts first))
         (λ v. letter v true e)
-        (ap (options_at lists) (t first ∙ side_by place (label_of firsts_low first) (label_of firsts_high first) first true e))
+        (ap (items_at lists) (t first ∙ side_by place (label_of firsts_low first) (label_of firsts_high first) first true e))
         (k first lt)
     go false e =
-        same_options width first letters_low letters (options_at lists_low (label_of firsts_low first)) (options_at lists (label_of firsts first))
+        same_options width first letters_low letters (items_at lists_low (label_of firsts_low first)) (items_at lists (label_of firsts first))
         (λ v. letter v false e)
-        (ap (options_at lists) (t first ∙ side_by place (label_of firsts_low first) (label_of firsts_high first) first false e) ∙ keeps (label_of firsts_low first) (below first))
+        (ap (items_at lists) (t first ∙ side_by place (label_of firsts_low first) (label_of firsts_high first) first false e) ∙ keeps (label_of firsts_low first) (below first))
         (h first lt)
 
 -- the pairs of two parts
@@ -184,3 +186,30 @@ pairs_joined start first all ls low hs high es el eh ef ea =
 
 pub pairs_alone : (start all ls rest : List (ℕ × ℕ)) → start ≡ [] → ls ≡ rest → all ≡ start ++ shifted 0 ls → all ≡ shifted 0 rest
 pairs_alone start all ls rest es el ea = ea ∙ ap (λ (l : List (ℕ × ℕ)). l ++ shifted 0 ls) es ∙ ap (shifted 0) el
+
+-- the labels of both parts are met
+pub split_met : (place : ℕ) (low high now : List Branch) (met : List (ℕ × ℕ)) → IsSplitOf place low high now → ((bits : ℕ) → HasNumber met (label_of low bits)) → ((bits : ℕ) → HasNumber met (label_of high bits)) → (bits : ℕ) → HasNumber met (label_of now bits)
+split_met place low high now met s h k bits = go (eqb (bits / 2 ^ place % 2) 1) refl
+  where
+    go : (b : Bool) → eqb (bits / 2 ^ place % 2) 1 ≡ b → HasNumber met (label_of now bits)
+    go true e = subst (HasNumber met) (sym (s bits ∙ side_by place (label_of low bits) (label_of high bits) bits true e)) (k bits)
+    go false e = subst (HasNumber met) (sym (s bits ∙ side_by place (label_of low bits) (label_of high bits) bits false e)) (h bits)
+
+-- one more pair
+pub met_more : (options : List (ℕ × ℕ)) (i : ℕ) (met now : List (ℕ × ℕ)) (new : ℕ × ℕ) → i < length options → new.1 ≡ (pair_at options i).1 → now ≡ met ++ new ∷ [] → ((n : ℕ) → HasNumber (take i options) n → HasNumber met n) → (n : ℕ) → HasNumber (take (i + 1) options) n → HasNumber now n
+met_more options i met now new lt e en h n w =
+    let long : length (take (i + 1) options) ≡ i + 1 = length-take-le (i + 1) options (omega arith) in
+    let inside : w.0 < length (take (i + 1) options) = w.1 in
+    let below : w.0 < i + 1 = omega arith in
+    let at : (pair_at options w.0).1 ≡ n = ap (λ (p : ℕ × ℕ). p.1) (sym (get_or-take (i + 1) options w.0 (0, 0) below)) ∙ w.2 in
+    subst (λ ps. HasNumber ps n) (sym en) (go at (cases_lt w.0 i))
+  where
+    go : (pair_at options w.0).1 ≡ n → (w.0 < i) ⊎ (i ≤ w.0) → HasNumber (met ++ new ∷ []) n
+    go at (inl l) =
+        let long : length (take i options) ≡ i = length-take-le i options (omega arith) in
+        has_left met (new ∷ []) n (h n (w.0, omega arith, ap (λ (p : ℕ × ℕ). p.1) (get_or-take i options w.0 (0, 0) l) ∙ at))
+    go at (inr l) =
+        let long : length (take (i + 1) options) ≡ i + 1 = length-take-le (i + 1) options (omega arith) in
+        let inside : w.0 < length (take (i + 1) options) = w.1 in
+        let same : w.0 ≡ i = omega arith in
+        has_right met (new ∷ []) n (0, omega arith, e ∙ ap (λ j. (pair_at options j).1) (sym same) ∙ at)

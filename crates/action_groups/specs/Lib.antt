@@ -1,9 +1,15 @@
+pub mod Actions
 pub mod First
 pub mod Labels
 pub mod Listing
+pub mod Lists
+pub mod Made
+pub mod Numbers
 pub mod Options
 pub mod Part
 pub mod Parts
 pub mod Rank
 pub mod Row
+pub mod Rows
+pub mod Tests
 pub mod Way

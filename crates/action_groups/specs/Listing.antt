@@ -3,7 +3,7 @@ use Rattle.std.specs.Prelude.{ℕ, ◌<◌, ◌^◌, List, length, map, slice_in
 use Rattle.std.specs.List.{All}
 use Rattle.std.specs.declared.alloc.Global.{Global}
 use Rattle.game_form.specs.Game.{ClassData}
-use Rattle.action_groups.specs.Options.{options_at}
+use Rattle.action_groups.specs.Lists.{items_at}
 
 -- the least valuation is one of the first side, and there is some option, each an action with a valuation of the second side
 pub record IsListedClass (width second count : ℕ) (c : ClassData) : Type 0 where
@@ -17,4 +17,4 @@ with_numbers numbers = map (λ p. (slice_index numbers p.1, p.0))
 
 -- the class of a least valuation and the place of its options
 abbrev pub class_from : List (Vec (ℕ × ℕ) Global) → List ℕ → ℕ × ℕ → ClassData
-class_from lists numbers p = record { least = p.0; options = with_numbers numbers (options_at lists p.1) }
+class_from lists numbers p = record { least = p.0; options = with_numbers numbers (items_at lists p.1) }

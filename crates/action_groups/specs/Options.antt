@@ -1,19 +1,11 @@
 -- The options of the valuations of the first side: pairs of a valuation of the second side and the label of both.
-use Rattle.std.specs.Prelude.{◌≡◌, ℕ, zero, suc, ◌+◌, ◌*◌, ◌^◌, ◌<◌, List, [], ◌∷◌, length, Vec}
+use Rattle.std.specs.Prelude.{◌≡◌, ℕ, ◌+◌, ◌*◌, ◌^◌, ◌<◌, List, Vec}
 use Rattle.std.specs.List.{All, Contains}
 use Rattle.std.specs.declared.alloc.Global.{Global}
 use Rattle.word_core.specs.declared.branches.Branch.{Branch}
 use Rattle.word_core.specs.Tree.{label_of}
 use Rattle.action_groups.specs.Labels.{HasNumber}
-
-abbrev pub options_at : List (Vec (ℕ × ℕ) Global) → ℕ → List (ℕ × ℕ)
-options_at [] c = []
-options_at (o ∷ lists) zero = o.items
-options_at (o ∷ lists) (suc c) = options_at lists c
-
--- the lists of earlier places stay
-abbrev pub KeepsLists : List (Vec (ℕ × ℕ) Global) → List (Vec (ℕ × ℕ) Global) → Type 0
-KeepsLists before now = (c : ℕ) → c < length before → options_at now c ≡ options_at before c
+use Rattle.action_groups.specs.Lists.{items_at}
 
 -- some of the pairs, and one of each number
 pub record IsOnce (pairs kept : List (ℕ × ℕ)) : Type 0 where
@@ -27,4 +19,4 @@ pub record AreOptionsOf (width first : ℕ) (letters : List Branch) (options : L
 
 -- the list that a first valuation leads to has its options
 abbrev pub HasOptions : ℕ → List Branch → List Branch → List (Vec (ℕ × ℕ) Global) → Type 0
-HasOptions width letters firsts lists = (first : ℕ) → first < 2 ^ width → AreOptionsOf width first letters (options_at lists (label_of firsts first))
+HasOptions width letters firsts lists = (first : ℕ) → first < 2 ^ width → AreOptionsOf width first letters (items_at lists (label_of firsts first))

@@ -3,11 +3,13 @@
 ghost use Rattle.std.specs.Prelude.{◌≡◌, ◌<◌, ◌≤◌, ◌+◌, ◌-◌, ◌^◌, ℕ, length, vec_len, IfOk, OnOk};
 ghost use Rattle.std.specs.List.{All};
 ghost use Rattle.word_core.specs.Tree.{label_of};
-ghost use Rattle.action_groups.specs.Labels.{KeepsLabels, IsLabelled};
-ghost use Rattle.action_groups.specs.Options.{options_at, KeepsLists, IsOnce, HasOptions};
+ghost use Rattle.action_groups.specs.Labels.{KeepsLabels, HasNumber, IsLabelled};
+ghost use Rattle.action_groups.specs.Tests.{HasEffects};
+ghost use Rattle.action_groups.specs.Lists.{items_at, KeepsLists};
+ghost use Rattle.action_groups.specs.Options.{IsOnce, HasOptions};
 ghost use Rattle.action_groups.specs.Part.{AreNodes, ArePairs};
 ghost use Rattle.action_groups.specs.First.{AreOptions};
-ghost use Rattle.action_groups.specs.Way.{IsWay, IsStep};
+ghost use Rattle.action_groups.specs.Way.{IsWay, AreSteps};
 
 use crate::groups::{Letters, split_rest};
 use crate::orders::Order;
@@ -66,6 +68,8 @@ fn meet_letters(
     requires met { ArePairs 64 count met.old.items }
     ensures met { ArePairs 64 count met.new.items }
     ensures grows { OnOk result (length met.new.items ≡ length met.old.items + length options.now) }
+    ensures old { OnOk result ((n : ℕ) → HasNumber met.old.items n → HasNumber met.new.items n) }
+    ensures noted { OnOk result ((n : ℕ) → HasNumber options.now n → HasNumber met.new.items n) }
 {
     for (value, label) in options {
         met.push((order.letter(first, *value), *label))?;
@@ -100,7 +104,9 @@ fn put_options(
     ensures kept { OnOk result (KeepsLabels firsts.old.nodes.items firsts.new.nodes.items) }
     ensures lists { OnOk result (KeepsLists firsts.old.options.keys firsts.new.options.keys) }
     ensures leaf { IfOk result (λ l. (bits : ℕ) → label_of firsts.new.nodes.items bits ≡ l) }
-    ensures once { IfOk result (λ l. IsOnce pairs.items (options_at firsts.new.options.keys l)) }
+    ensures once { IfOk result (λ l. IsOnce pairs.items (items_at firsts.new.options.keys l)) }
+    ensures old_met { OnOk result ((n : ℕ) → HasNumber firsts.old.met.items n → HasNumber firsts.new.met.items n) }
+    ensures all_met { OnOk result ((n : ℕ) → HasNumber pairs.items n → HasNumber firsts.new.met.items n) }
 {
     pairs.sort()?;
     let options = first_of_each(alloc, &pairs, second, count)?;
@@ -129,12 +135,12 @@ pub fn split_first(
     requires width { width ≤ order.inputs + order.outputs }
     requires ways { All (IsWay count) ways.now }
     requires letter_nodes { AreNodes (order.inputs + order.outputs) (length letters.old.effects.keys) letters.old.nodes.items }
-    requires effects { All (λ e. All (IsStep count) e.items) letters.old.effects.keys }
+    requires effects { All (λ e. AreSteps count e.items) letters.old.effects.keys }
     requires nodes { AreNodes width (length firsts.old.options.keys) firsts.old.nodes.items }
     requires options { AreOptions (order.inputs + order.outputs - width) (length letters.old.effects.keys) firsts.old.options.keys }
     requires met { ArePairs 64 (length letters.old.effects.keys) firsts.old.met.items }
     ensures letter_nodes { OnOk result (AreNodes (order.inputs + order.outputs) (length letters.new.effects.keys) letters.new.nodes.items) }
-    ensures effects { OnOk result (All (λ e. All (IsStep count) e.items) letters.new.effects.keys) }
+    ensures effects { OnOk result (All (λ e. AreSteps count e.items) letters.new.effects.keys) }
     ensures letters_grow { OnOk result (length letters.old.nodes.items < length letters.new.nodes.items) }
     ensures more_effects { OnOk result (length letters.old.effects.keys ≤ length letters.new.effects.keys) }
     ensures nodes { OnOk result (AreNodes width (length firsts.new.options.keys) firsts.new.nodes.items) }
@@ -148,6 +154,10 @@ pub fn split_first(
     ensures letters_kept { OnOk result (KeepsLabels letters.old.nodes.items letters.new.nodes.items) }
     ensures kept { OnOk result (KeepsLabels firsts.old.nodes.items firsts.new.nodes.items) }
     ensures lists { OnOk result (KeepsLists firsts.old.options.keys firsts.new.options.keys) }
+    ensures effect_lists { OnOk result (KeepsLists letters.old.effects.keys letters.new.effects.keys) }
+    ensures exact { OnOk result (HasEffects order place letters.new.nodes.items letters.new.effects.keys ways.now) }
+    ensures old_met { OnOk result ((n : ℕ) → HasNumber firsts.old.met.items n → HasNumber firsts.new.met.items n) }
+    ensures all_met { OnOk result ((bits : ℕ) → HasNumber firsts.new.met.items (label_of letters.new.nodes.items bits)) }
     ensures chosen { OnOk result (HasOptions width letters.new.nodes.items firsts.new.nodes.items firsts.new.options.keys) }
     ensures labelled { IfOk result (λ v. IsLabelled place firsts.new.nodes.items v.items) }
 {
@@ -189,7 +199,7 @@ pub fn split_first(
         )?;
         return Ok(pairs);
     }
-    let unset = restricted(alloc, ways, signal, false, count)?;
+    let unset = restricted(alloc, ways, signal, 0, count)?;
     let low = split_first(
         alloc,
         &unset,
@@ -202,7 +212,7 @@ pub fn split_first(
         firsts,
     )?;
     let (letter_at, at) = (letters.nodes.len() - 1, firsts.nodes.len() - 1);
-    let set = restricted(alloc, ways, signal, true, count)?;
+    let set = restricted(alloc, ways, signal, 1, count)?;
     let high = split_first(
         alloc,
         &set,

@@ -6,9 +6,12 @@ ghost use Rattle.action_groups.specs.First.{AreOptions};
 ghost use Rattle.action_groups.specs.Part.{AreNodes, ArePairs};
 ghost use Rattle.action_groups.specs.Rank.{IsRanked};
 ghost use Rattle.action_groups.specs.Row.{AreRows};
-ghost use Rattle.action_groups.specs.Way.{IsStep};
+ghost use Rattle.action_groups.specs.Way.{AreSteps};
 ghost use Rattle.std.specs.Prelude.{map};
-ghost use Rattle.action_groups.specs.Labels.{IsLabelled};
+ghost use Rattle.word_core.specs.Tree.{label_of};
+ghost use Rattle.action_groups.specs.Labels.{HasNumber, IsLabelled};
+ghost use Rattle.action_groups.specs.Actions.{AreActionsOf, HasEffectRows, HasPartRows, inputs_lead};
+ghost use Rattle.action_groups.specs.Rows.{HasRows};
 ghost use Rattle.action_groups.specs.Listing.{IsListedClass, class_from, with_numbers};
 ghost use Rattle.action_groups.specs.Options.{HasOptions};
 ghost use Rattle.action_groups.specs.Parts.{AreParts, HasLetterParts};
@@ -41,7 +44,9 @@ fn first_width(player: Player, kind: Kind, inputs: u32, outputs: u32) -> u32
 }
 
 /// Whether the side that moves first chooses the inputs.
-fn has_inputs_first(player: Player, kind: Kind) -> bool {
+fn has_inputs_first(player: Player, kind: Kind) -> bool
+    ensures { result ≡ inputs_lead player kind }
+{
     match (player, kind) {
         (Player::System, Kind::Second) => true,
         (Player::Environment, Kind::First) => true,
@@ -75,6 +80,7 @@ pub fn make_game(
     ensures init { IfOk result (λ g. g.init ≡ a.now.init) }
     ensures lanes { IfOk result (λ g. lanes g ≡ length a.now.states) }
     ensures letters { IfOk result HasLetters }
+    ensures rows { IfOk result (HasRows a.now) }
 {
     let width = first_width(player, kind, inputs, outputs);
     let order = Order {
@@ -108,7 +114,9 @@ pub struct Parts {
 
 /// The actions and classes of the letters, and their trees; `width` signals are the first side's.
 fn parts_of(alloc: Global, a: &Automaton, order: Order, width: u32) -> Result<Parts, AllocError>
-    requires { width ≤ order.inputs + order.outputs }
+    requires width { width ≤ order.inputs + order.outputs }
+    requires signals { a.now.signals ≡ order.inputs + order.outputs }
+    ensures rows { IfOk result (HasPartRows order.inputs order.outputs order.inputs_first a.now) }
     ensures parts { IfOk result (AreParts (length a.now.states) (order.inputs + order.outputs) width) }
     ensures letters { IfOk result (HasLetterParts width) }
 {
@@ -151,7 +159,7 @@ fn numbered(
     requires narrow { count < 2 ^ 32 }
     requires letter_nodes { AreNodes (order.inputs + order.outputs) (length letters.effects.keys) letters.nodes.items }
     requires some_letter { 0 < length letters.nodes.items }
-    requires effects { All (λ e. All (IsStep count) e.items) letters.effects.keys }
+    requires effects { All (λ e. AreSteps count e.items) letters.effects.keys }
     requires nodes { AreNodes width (length firsts.options.keys) firsts.nodes.items }
     requires some_first { 0 < length firsts.nodes.items }
     requires options { AreOptions (order.inputs + order.outputs - width) (length letters.effects.keys) firsts.options.keys }
@@ -161,6 +169,8 @@ fn numbered(
     requires some { 0 < length pairs.items }
     requires labelled { IsLabelled 0 firsts.nodes.items pairs.items }
     requires chosen { HasOptions width letters.nodes.items firsts.nodes.items firsts.options.keys }
+    requires all_met { (bits : ℕ) → HasNumber firsts.met.items (label_of letters.nodes.items bits) }
+    ensures rows { IfOk result (HasEffectRows count letters.nodes.items letters.effects.keys) }
     ensures parts { IfOk result (AreParts count (order.inputs + order.outputs) width) }
     ensures letters { IfOk result (HasLetterParts width) }
 {
@@ -202,10 +212,11 @@ fn actions(
     count: usize,
 ) -> Result<Vec<Action>, AllocError>
     requires labels { IsRanked 64 (length letters.now.effects.keys) labels.now }
-    requires effects { All (λ e. All (IsStep count) e.items) letters.now.effects.keys }
+    requires effects { All (λ e. AreSteps count e.items) letters.now.effects.keys }
     requires narrow { count < 2 ^ 32 }
     ensures len { IfOk result (λ v. length v.items ≡ length labels.now.order.items) }
     ensures rows { IfOk result (λ v. All (AreRows count) v.items) }
+    ensures numbers { IfOk result (λ v. AreActionsOf count letters.now.effects.keys (length labels.now.order.items) labels.now.order.items v.items) }
 {
     let mut actions = Vec::with_capacity(alloc, labels.order.len())?;
     for (_, label) in &labels.order {

@@ -4,8 +4,12 @@ ghost use Rattle.std.specs.Prelude.{◌≡◌, ◌<◌, ◌≤◌, ◌+◌, ◌-
 ghost use Rattle.std.specs.List.{All};
 ghost use Rattle.word_core.specs.Tree.{label_of};
 ghost use Rattle.action_groups.specs.Labels.{KeepsLabels, IsLabelled};
+ghost use Rattle.std.specs.Prelude.{map};
+ghost use Rattle.action_groups.specs.Lists.{items_at, KeepsLists};
+ghost use Rattle.action_groups.specs.Numbers.{HasSameNumbers, step_of};
+ghost use Rattle.action_groups.specs.Tests.{HasEffects};
 ghost use Rattle.action_groups.specs.Part.{AreNodes, ArePairs};
-ghost use Rattle.action_groups.specs.Way.{IsWay, IsStep};
+ghost use Rattle.action_groups.specs.Way.{IsWay, AreSteps};
 
 use crate::orders::Order;
 use crate::parts::{add_part, push_leaf, push_split};
@@ -35,14 +39,16 @@ fn put_effect(
     requires narrow { width ≤ 64 }
     requires ways { All (IsWay count) ways.now }
     requires nodes { AreNodes width (length letters.old.effects.keys) letters.old.nodes.items }
-    requires effects { All (λ e. All (IsStep count) e.items) letters.old.effects.keys }
+    requires effects { All (λ e. AreSteps count e.items) letters.old.effects.keys }
     ensures nodes { OnOk result (AreNodes width (length letters.new.effects.keys) letters.new.nodes.items) }
-    ensures effects { OnOk result (All (λ e. All (IsStep count) e.items) letters.new.effects.keys) }
+    ensures effects { OnOk result (All (λ e. AreSteps count e.items) letters.new.effects.keys) }
     ensures more { OnOk result (length letters.old.effects.keys ≤ length letters.new.effects.keys) }
     ensures grows { OnOk result (length letters.old.nodes.items < length letters.new.nodes.items) }
     ensures label { IfOk result (λ l. l < length letters.new.effects.keys) }
     ensures kept { OnOk result (KeepsLabels letters.old.nodes.items letters.new.nodes.items) }
     ensures leaf { IfOk result (λ l. (bits : ℕ) → label_of letters.new.nodes.items bits ≡ l) }
+    ensures lists { OnOk result (KeepsLists letters.old.effects.keys letters.new.effects.keys) }
+    ensures numbers { IfOk result (λ l. HasSameNumbers (items_at letters.new.effects.keys l) (map step_of ways.now)) }
 {
     let (label, _) = letters.effects.insert_full(effect(alloc, ways, count)?)?;
     push_leaf(
@@ -68,15 +74,17 @@ pub fn split_rest(
     requires place { place ≤ order.inputs + order.outputs }
     requires ways { All (IsWay count) ways.now }
     requires nodes { AreNodes (order.inputs + order.outputs) (length letters.old.effects.keys) letters.old.nodes.items }
-    requires effects { All (λ e. All (IsStep count) e.items) letters.old.effects.keys }
+    requires effects { All (λ e. AreSteps count e.items) letters.old.effects.keys }
     ensures nodes { OnOk result (AreNodes (order.inputs + order.outputs) (length letters.new.effects.keys) letters.new.nodes.items) }
-    ensures effects { OnOk result (All (λ e. All (IsStep count) e.items) letters.new.effects.keys) }
+    ensures effects { OnOk result (All (λ e. AreSteps count e.items) letters.new.effects.keys) }
     ensures more { OnOk result (length letters.old.effects.keys ≤ length letters.new.effects.keys) }
     ensures grows { OnOk result (length letters.old.nodes.items < length letters.new.nodes.items) }
     ensures pairs { IfOk result (λ v. ArePairs (order.inputs + order.outputs - place) (length letters.new.effects.keys) v.items) }
     ensures some { IfOk result (λ v. 0 < length v.items) }
     ensures kept { OnOk result (KeepsLabels letters.old.nodes.items letters.new.nodes.items) }
     ensures labelled { IfOk result (λ v. IsLabelled place letters.new.nodes.items v.items) }
+    ensures lists { OnOk result (KeepsLists letters.old.effects.keys letters.new.effects.keys) }
+    ensures exact { OnOk result (HasEffects order place letters.new.nodes.items letters.new.effects.keys ways.now) }
 {
     let width = order.width();
     if place >= width {
@@ -96,10 +104,10 @@ pub fn split_rest(
         )?;
         return Ok(pairs);
     }
-    let unset = restricted(alloc, ways, signal, false, count)?;
+    let unset = restricted(alloc, ways, signal, 0, count)?;
     let low = split_rest(alloc, &unset, count, order, place + 1, letters)?;
     let at = letters.nodes.len() - 1;
-    let set = restricted(alloc, ways, signal, true, count)?;
+    let set = restricted(alloc, ways, signal, 1, count)?;
     let high = split_rest(alloc, &set, count, order, place + 1, letters)?;
     push_split(&mut letters.nodes, place, at, width, letters.effects.len())?;
     add_part(

@@ -12,6 +12,8 @@ pub struct Order {
 }
 
 impl Order {
+    ghost use Rattle.action_groups.specs.Tests.{signal_of};
+
     /// The number of signals.
     pub fn width(self) -> u32
         ensures value { result ≡ self.inputs + self.outputs }
@@ -23,7 +25,8 @@ impl Order {
     /// The signal of a letter that a tree tests at this place.
     pub fn signal(self, place: u32) -> u32
         requires { place < self.inputs + self.outputs }
-        ensures { result < self.inputs + self.outputs }
+        ensures within { result < self.inputs + self.outputs }
+        ensures value { result ≡ signal_of self place }
     {
         if self.inputs_first {
             place

@@ -3,7 +3,11 @@
 ghost use Rattle.std.specs.Prelude.{◌≡◌, ◌<◌, ◌≤◌, ◌+◌, ◌^◌, ◌≤ℤ◌, ℕ, pos, length, vec_len, IfOk, OnOk};
 ghost use Rattle.std.specs.List.{All};
 ghost use Rattle.action_groups.specs.Row.{EndsBelow, AreRows};
-ghost use Rattle.action_groups.specs.Way.{IsStep};
+ghost use Rattle.action_groups.specs.Way.{AreSteps};
+ghost use Rattle.std.specs.Prelude.{max, nat_eq, if◌then◌else◌};
+ghost use Rattle.game_form.specs.Vector.{number, size_of};
+ghost use Rattle.action_groups.specs.Numbers.{mark_number};
+ghost use Rattle.action_groups.specs.Made.{AreLater, IsRowOf, HasNumbers};
 ghost use Rattle.game_form.specs.Game.{IsRow};
 
 use game_form::{Action, Row, Step};
@@ -13,6 +17,7 @@ use std::alloc::{AllocError, Global};
 fn number_of(marked: bool) -> i16
     ensures low { pos 1 ≤ℤ result }
     ensures high { result ≤ℤ pos 2 }
+    ensures value { size_of result ≡ mark_number marked }
 {
     if marked { 2 } else { 1 }
 }
@@ -32,6 +37,7 @@ fn put_step(
     requires ends { EndsBelow next steps.old.items }
     ensures row { IsRow lanes 0 steps.new.items }
     ensures ends { OnOk result (EndsBelow (to + 1) steps.new.items) }
+    ensures numbers { OnOk result ((p : ℕ) → number steps.new.items p ≡ max (number steps.old.items p) (if nat_eq to p then mark_number marked else 0)) }
 {
     steps.push(Step {
         to,
@@ -48,9 +54,13 @@ fn row_of(
     lane: u32,
     lanes: usize,
 ) -> Result<(Row, usize), AllocError>
-    requires steps { All (IsStep lanes) steps.now }
+    requires steps { AreSteps lanes steps.now }
     requires narrow { lanes < 2 ^ 32 }
-    ensures { IfOk result (λ r. IsRow lanes 0 r.0) }
+    requires later { AreLater steps.now at lane }
+    requires within { at ≤ length steps.now }
+    ensures row { IfOk result (λ r. IsRow lanes 0 r.0) }
+    ensures exact { IfOk result (λ r. IsRowOf steps.now at lane r.0 r.1) }
+    ensures behind { IfOk result (λ r. r.1 ≤ length steps.now) }
 {
     let mut row = Vec::new(alloc);
     let mut next: u32 = 0;
@@ -73,9 +83,10 @@ pub fn action_of(
     steps: &[(u32, u32, bool)],
     lanes: usize,
 ) -> Result<Action, AllocError>
-    requires steps { All (IsStep lanes) steps.now }
+    requires steps { AreSteps lanes steps.now }
     requires narrow { lanes < 2 ^ 32 }
-    ensures { IfOk result (AreRows lanes) }
+    ensures rows { IfOk result (AreRows lanes) }
+    ensures numbers { IfOk result (λ a. HasNumbers steps.now a) }
 {
     let mut rows = Vec::with_capacity(alloc, lanes)?;
     let mut at: usize = 0;

@@ -1,8 +1,13 @@
-use Rattle.std.proofs.Common.{◌≡◌, ◌<◌, ◌≤◌, ◌+◌, ◌-◌, length, refl, ap, subst, arith}
+use Rattle.std.proofs.Common.{◌≡◌, ◌<◌, ◌≤◌, ◌+◌, ◌-◌, ◌∙◌, length, refl, ap, subst, arith}
+use Rattle.std.specs.Int.{bit_at}
+use Rattle.std.specs.List.{All, filter}
 use Rattle.std.proofs.lemmas.Grind.{common_steps}
+use Rattle.word_core.specs.Tree.{label_of}
 use Rattle.action_groups.specs.Labels.{IsLabelled}
+use Rattle.action_groups.specs.Tests.{allows, signal_of}
+use Rattle.action_groups.proofs.Allowed.{rest_effects, split_effects}
 use Rattle.action_groups.proofs.Grown.{split_of, label_below}
-use Rattle.action_groups.proofs.Splits.{rest_labelled, split_labelled, pairs_joined, pairs_alone, leaf_options, split_options}
+use Rattle.action_groups.proofs.Splits.{rest_labelled, split_labelled, pairs_joined, pairs_alone, leaf_options, split_options, split_met}
 use Rattle.action_groups.proofs.firsts.+split_first.Goals as goal
 
 pub returns-then-place-width-clause-chosen : goal.returns-then-place-width-clause-chosen
@@ -52,3 +57,46 @@ returns-clause-labelled t c =
     let pairs = pairs_joined c.new-pairs.result.items c.add_part-2.new.pairs.items c.add_part-3.new.pairs.items c.deref-4.result.now c.in_ok-low.low.items c.deref-5.result.now c.in_ok-high.high.items
     c.new-pairs.ensures.items c.deref-4.ensures.value c.deref-5.ensures.value c.in_ok-add_part-2.ensures.value c.in_ok-add_part-3.ensures.value in
     split_labelled c.args.place (c.args.place + 1) low high now c.in_ok-low.low.items c.in_ok-high.high.items c.add_part-3.new.pairs.items refl split pairs c.in_ok-low.ensures.labelled c.in_ok-high.ensures.labelled
+
+pub returns-then-place-width-clause-exact : goal.returns-then-place-width-clause-exact
+returns-then-place-width-clause-exact t c = c.in_ok-rest.ensures.exact
+
+pub returns-then-place-width-clause-all_met : goal.returns-then-place-width-clause-all_met
+returns-then-place-width-clause-all_met t c = λ bits. c.in_ok-label.ensures.all_met (label_of c.split_rest.new.letters.nodes.items bits) (c.in_ok-rest.ensures.labelled.all bits)
+
+pub returns-then-not-is_tested-clause-exact : goal.returns-then-not-is_tested-clause-exact
+returns-then-not-is_tested-clause-exact t c =
+    let within : c.args.place < c.args.order.inputs + c.args.order.outputs = omega (arith, c.requires.width, c.if-place-width.false) in
+    let free = subst (λ s. All (λ w. bit_at w.edge.cube.care s ≡ 0) c.args.ways.now) c.signal-signal.ensures.value (c.is_tested.ensures c.if-not-is_tested.true) in
+    rest_effects c.args.order c.args.place (c.args.place + 1) c.split_first.new.letters.nodes.items c.split_first.new.letters.effects.keys c.args.ways.now refl within free c.in_ok-rest-2.ensures.exact
+
+pub returns-clause-exact : goal.returns-clause-exact
+returns-clause-exact t c =
+    let low = c.split_first-2.new.letters.nodes.items in
+    let high = c.split_first-3.new.letters.nodes.items in
+    let now = c.push_split.new.nodes.items in
+    let before = c.split_first-2.new.letters.effects.keys in
+    let effects = c.split_first-3.new.letters.effects.keys in
+    let ways = c.args.ways.now in
+    let wide : c.args.order.inputs + c.args.order.outputs ≤ 64 = omega (arith, c.width-whole.ensures.value, c.width-whole.ensures.narrow) in
+    let within : c.args.place < c.args.order.inputs + c.args.order.outputs = omega (arith, c.requires.width, c.if-place-width.false) in
+    let some : 0 < length low = omega (arith, c.in_ok-low.ensures.letters_grow) in
+    let size : c.len-2.result ≡ length low = grind (arith, common_steps) in
+    let split = split_of c.args.place (c.len-2.result - 1) low high now some (ap (λ n. n - 1) size) c.in_ok-high.ensures.letters_kept c.in_ok-push_split.ensures.split in
+    let unset : c.deref-2.result.now ≡ filter (λ w. allows w.edge.cube (signal_of c.args.order c.args.place) 0) ways =
+    c.deref-2.ensures.value ∙ c.in_ok-unset.ensures.value ∙ ap (λ s. filter (λ w. allows w.edge.cube s 0) ways) c.signal-signal.ensures.value in
+    let set : c.deref-3.result.now ≡ filter (λ w. allows w.edge.cube (signal_of c.args.order c.args.place) 1) ways =
+    c.deref-3.ensures.value ∙ c.in_ok-set.ensures.value ∙ ap (λ s. filter (λ w. allows w.edge.cube s 1) ways) c.signal-signal.ensures.value in
+    split_effects c.args.order c.args.place (c.args.place + 1) low high now before effects ways c.deref-2.result.now c.deref-3.result.now refl within split unset set
+    (label_below (c.args.order.inputs + c.args.order.outputs) (length before) low wide c.in_ok-low.ensures.letter_nodes some)
+    c.in_ok-high.ensures.effect_lists c.in_ok-low.ensures.exact c.in_ok-high.ensures.exact
+
+pub returns-clause-all_met : goal.returns-clause-all_met
+returns-clause-all_met t c =
+    let low = c.split_first-2.new.letters.nodes.items in
+    let high = c.split_first-3.new.letters.nodes.items in
+    let now = c.push_split.new.nodes.items in
+    let some : 0 < length low = omega (arith, c.in_ok-low.ensures.letters_grow) in
+    let size : c.len-2.result ≡ length low = grind (arith, common_steps) in
+    let split = split_of c.args.place (c.len-2.result - 1) low high now some (ap (λ n. n - 1) size) c.in_ok-high.ensures.letters_kept c.in_ok-push_split.ensures.split in
+    split_met c.args.place low high now c.split_first-3.new.firsts.met.items split (λ bits. c.in_ok-high.ensures.old_met (label_of low bits) (c.in_ok-low.ensures.all_met bits)) c.in_ok-high.ensures.all_met

@@ -7,9 +7,9 @@ use Rattle.std.proofs.lemmas.List.{length_push}
 use Rattle.std.proofs.lemmas.List.Elements.{All-push}
 use Rattle.game_form.specs.Game.{ClassData}
 use Rattle.action_groups.specs.Labels.{pair_at}
-use Rattle.action_groups.specs.Options.{options_at}
+use Rattle.action_groups.specs.Lists.{items_at}
 use Rattle.action_groups.specs.Listing.{IsListedClass, class_from, with_numbers}
-use Rattle.action_groups.proofs.Lists.{read_options, class_more}
+use Rattle.action_groups.proofs.Lists.{read_items, class_more}
 use Rattle.action_groups.proofs.games.class_list.Goals as goal
 
 pub loop-least-preserved : goal.loop-least-preserved
@@ -28,8 +28,8 @@ loop-least-preserved c =
     let label : q.1 < length lists = subst (λ (x : ℕ × ℕ). x.1 < length lists) (sym same) ranged.1 in
     let read : c.index-as_slice-label.result ≡ get_or lists q.1 c.index-as_slice-label.result =
     subst (λ (l : List (Vec (ℕ × ℕ) Global)). c.index-as_slice-label.result ≡ get_or l q.1 c.index-as_slice-label.result) c.as_slice.ensures.keys c.index-as_slice-label.is in
-    let there : options_at lists q.1 ≡ c.index-as_slice-label.result.items = read_options lists q.1 c.index-as_slice-label.result label read in
-    let options : c.in_ok-options_of.field-0.items ≡ with_numbers c.args.labels.now.numbers.items (options_at lists q.1) =
+    let there : items_at lists q.1 ≡ c.index-as_slice-label.result.items = read_items lists q.1 c.index-as_slice-label.result label read in
+    let options : c.in_ok-options_of.field-0.items ≡ with_numbers c.args.labels.now.numbers.items (items_at lists q.1) =
     c.in_ok-options_of.ensures.value
     ∙ ap (λ (ns : List ℕ). with_numbers ns c.deref.result.now) c.deref-in-loop-least.ensures.value
     ∙ ap (with_numbers c.args.labels.now.numbers.items) (c.deref.ensures.value ∙ sym there) in

@@ -1,0 +1,22 @@
+use Rattle.std.proofs.Common.{List, length, subst}
+use Rattle.std.proofs.lemmas.Result.{IfOk-weaker}
+use Rattle.word_core.specs.declared.automata.Edge.{Edge}
+use Rattle.action_groups.specs.declared.games.Parts.{Parts}
+use Rattle.action_groups.specs.declared.ways.Way.{Way}
+use Rattle.action_groups.specs.Actions.{HasEffectRows, HasPartRows}
+use Rattle.action_groups.specs.Tests.{HasEffects}
+use Rattle.action_groups.proofs.Acts.{part_rows}
+use Rattle.action_groups.proofs.games.parts_of.Goals as goal
+
+pub returns-clause-rows : goal.returns-clause-rows
+returns-clause-rows c =
+    let nodes = c.split_first.new.letters.nodes.items in
+    let effects = c.split_first.new.letters.effects.keys in
+    let ways = c.in_ok-ways.ways.items in
+    let exact : HasEffects c.args.order 0 nodes effects ways = subst (λ (l : List Way). HasEffects c.args.order 0 nodes effects l) c.deref.ensures.value c.in_ok-pairs.ensures.exact in
+    let P : Parts → Type 0 = HasEffectRows (length c.states-count.result.now) nodes effects in
+    let Q : Parts → Type 0 = HasPartRows c.args.order.inputs c.args.order.outputs c.args.order.inputs_first c.args.a.now in
+    let step : (p : Parts) → P p → Q p = λ p h.
+    part_rows c.args.order c.args.a.now nodes effects ways p c.requires.signals c.in_ok-ways.ensures.exact exact
+    (subst (λ (l : List (List Edge)). HasEffectRows (length l) nodes effects p) c.states-count.ensures.value h) in
+    IfOk-weaker _ P Q step c.numbered.ensures.rows
