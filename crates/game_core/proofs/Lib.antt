@@ -6,6 +6,7 @@ pub mod First
 pub mod FullColumns
 pub mod Greatest
 pub mod Kept
+pub mod KeptCovered
 pub mod Lists
 pub mod Options
 pub mod Orders

@@ -54,6 +54,7 @@ settled_puts g whole vectors list h is =
       vectors = all_puts (IsVector g) [] vectors tt h.vectors;
       closed = All-from_recursion Stays (puts [] vectors) (all_puts Stays [] vectors tt (recursion_from_All Stays vectors (λ k d lt. answers_same g (puts [] vectors) vectors _ same ∙ h.closed k d lt)));
       largest = λ other (closed : IsClosed g other) k d lt. same _ ∙ h.largest other closed k d lt;
+      all_held = λ letters v held. same v ∙ h.all_held letters v held;
       begins = λ asked. same (initial g) ∙ h.begins asked;
     })
   where

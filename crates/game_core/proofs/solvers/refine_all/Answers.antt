@@ -16,14 +16,14 @@ pub refining-preserved : goal.refining-preserved
 refining-preserved c = (
   c.in_ok-exchange.ensures.entries,
   c.in_ok-exchange.ensures.columns,
-  covers_kept c.args.g.now c.refining.entries.vectors.items c.exchange.new.entries.vectors.items c.refining.invariant.2 c.in_ok-exchange.ensures.keeps,
+  covers_kept c.args.g.now c.known.ensures c.refining.entries.vectors.items c.exchange.new.entries.vectors.items c.refining.invariant.2 c.in_ok-exchange.ensures.keeps,
 )
 
 pub returns-then-is_lost-clause-lost : goal.returns-then-is_lost-clause-lost
 returns-then-is_lost-clause-lost c = λ _.
     let vs : List (List ℤ) = c.exchange.new.entries.vectors.items in
     lost_seen c.args.g.now c.args.whole vs c.deref-in-Some.result.now c.in_ok-initial.initial
-    (covers_kept c.args.g.now c.refining.entries.vectors.items vs c.refining.invariant.2 c.in_ok-exchange.ensures.keeps)
+    (covers_kept c.args.g.now c.known.ensures c.refining.entries.vectors.items vs c.refining.invariant.2 c.in_ok-exchange.ensures.keeps)
     (c.is_lost.ensures.asked c.if-is_lost.true) c.deref-in-Some.ensures.value c.in_ok-initial.ensures (c.is_lost.ensures.missed c.if-is_lost.true)
 
 pub returns-clause-lost : goal.returns-clause-lost
