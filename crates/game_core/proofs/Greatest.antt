@@ -20,6 +20,8 @@ use Rattle.cpre_step.specs.Refinement.{action_works, all_work, some_works, answe
 use Rattle.game_core.specs.Front.{IsApart, under}
 use Rattle.game_core.specs.Remains.{AreRemains, KeepsAnswered}
 use Rattle.game_core.specs.Solved.{Covers, IsClosed, IsLost, IsSettled}
+use Rattle.game_core.proofs.EntriesHeld.{closed_held}
+use Rattle.game_core.proofs.Exact.{has_held}
 use Rattle.game_core.proofs.Extents.{under_trans}
 use Rattle.game_core.proofs.KeptCovered.{kept_answered}
 use Rattle.game_core.proofs.Orders.{below_from}
@@ -127,12 +129,12 @@ pub lost_seen : (g : GameData) (whole : Bool) (vs seen : List (List ℤ)) (first
 lost_seen g whole vs seen first covers asked same is missed =
     lost g whole vs covers asked (ap (λ (xs : List (List ℤ)). under xs (initial g)) (sym same) ∙ ap (under seen) (sym is) ∙ missed)
 
-pub settled_seen : (g : GameData) (whole : Bool) (vs seen : List (List ℤ)) (first : List ℤ) → All (IsVector g) vs → All (λ f. answers g vs f ≡ true) vs → Covers g vs → seen ≡ vs
+pub settled_seen : (g : GameData) (whole : Bool) (vs seen : List (List ℤ)) (first : List ℤ) → IsGame g → AllPairs IsApart vs → All (IsVector g) vs → All (λ f. answers g vs f ≡ true) vs → Covers g vs → seen ≡ vs
     → first ≡ initial g → (whole ≡ false → under seen first ≡ true) → IsSettled g whole vs
-settled_seen g whole vs seen first vectors closed covers same is begins = record {
+settled_seen g whole vs seen first known apart vectors closed covers same is begins = record {
   vectors = recursion_from_All (IsVector g) vs vectors;
   closed = closed;
   largest = covers.closed;
-  all_held = held_covered g vs covers;
+  exact = λ letters covering. has_held g vs apart (closed_held g known letters vs vectors closed) (held_covered g vs covers covering);
   begins = λ asked. ap (λ (xs : List (List ℤ)). under xs (initial g)) (sym same) ∙ ap (under seen) (sym is) ∙ begins asked;
 }

@@ -1,5 +1,7 @@
 pub mod Boxes
 pub mod ColumnReads
+pub mod EntriesHeld
+pub mod Exact
 pub mod Extents
 pub mod Failing
 pub mod First

@@ -6,7 +6,8 @@ use Rattle.counter_vec.specs.Counters.{at_or_below}
 use Rattle.word_core.specs.Machine.{MachineData}
 use Rattle.game_form.specs.Covering.{CoversLetters}
 use Rattle.game_form.specs.Game.{GameData}
-use Rattle.game_form.specs.Held.{IsHeld, IsMachineOf, KeepsFrom}
+use Rattle.game_form.specs.Held.{HasHeld, IsHeld, IsMachineOf, KeepsFrom}
+use Rattle.game_form.specs.Letters.{HasLetters}
 use Rattle.game_form.specs.Vector.{IsVector, initial}
 use Rattle.cpre_step.specs.Refinement.{AreVectors, answers}
 use Rattle.game_core.specs.declared.solvers.Solved.{Solved}
@@ -31,12 +32,12 @@ pub record Covers (g : GameData) (list : List (List ℤ)) : Type 0 where
   pub closed : CoversClosed g list
   pub kept : CoversLetters g → CoversKept g list
 
--- the greatest closed list; where only the initial vector is asked for, one is at or above it
+-- the greatest closed list, which is exactly the maximal held vectors; where only the initial vector is asked for, one is at or above it
 pub record IsSettled (g : GameData) (whole : Bool) (list : List (List ℤ)) : Type 0 where
   pub vectors : AreVectors g list
   pub closed : All (λ f. answers g list f ≡ true) list
   pub largest : CoversClosed g list
-  pub all_held : CoversLetters g → (v : List ℤ) → IsHeld g v → covered at_or_below v list ≡ true
+  pub exact : HasLetters g → CoversLetters g → HasHeld g list
   pub begins : whole ≡ false → covered at_or_below (initial g) list ≡ true
 
 -- no closed list has a vector at or above the initial one, which alone was asked for; it isn't held

@@ -2,6 +2,8 @@
 
 ghost use Rattle.std.specs.Prelude.{◌≡◌, ◌<◌, ◌≤◌, ℕ, ℤ, List, [], true, false, length, vec_len, IfOk, IfSome, IfNone, IsTrue, OnOk, slice_index_or};
 ghost use Rattle.std.specs.List.{All};
+ghost use Rattle.antichain_list.specs.Antichain.{IsAntichain};
+ghost use Rattle.counter_vec.specs.Counters.{at_or_below, lexicographic};
 ghost use Rattle.game_form.specs.Game.{lanes};
 ghost use Rattle.game_form.specs.Vector.{IsVector, bound};
 ghost use Rattle.cpre_step.specs.Refinement.{answers};
@@ -122,10 +124,12 @@ fn slots_of(plan: &[Vec<u64>]) -> usize
 
 /// The list of these vectors.
 fn downset_of(alloc: Global, vectors: Vec<Counters>) -> Result<ListDownset<Counters>, AllocError>
-    ensures { IfOk result (λ d. d ≡ puts [] vectors.items) }
+    ensures list { IfOk result (λ d. d ≡ puts [] vectors.items) }
+    ensures antichain { IfOk result (IsAntichain at_or_below lexicographic) }
 {
     let mut list = ListDownset::empty(alloc);
     put_left(&mut list, vectors)?;
+    let _ = list.entries();
     Ok(list)
 }
 

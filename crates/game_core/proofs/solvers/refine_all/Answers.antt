@@ -34,6 +34,6 @@ returns-clause-lost c = λ h.
 pub returns-clause-settled : goal.returns-clause-settled
 returns-clause-settled c = λ h.
     let g = c.args.g.now in
-    settled_seen g c.args.whole c.refining.entries.vectors.items c.deref-2.result.now c.in_ok-initial.initial c.refining.invariant.0.vectors
+    settled_seen g c.args.whole c.refining.entries.vectors.items c.deref-2.result.now c.in_ok-initial.initial c.known.ensures c.refining.invariant.0.apart c.refining.invariant.0.vectors
     (subst (λ (vs : List (List ℤ)). All (λ f. answers g vs f ≡ true) vs) c.deref.ensures.value (rw c.in_default.is at c.in_ok-found.ensures.closed))
     c.refining.invariant.2 c.deref-2.ensures.value c.in_ok-initial.ensures (c.is_lost-2.ensures.covered h)
