@@ -72,7 +72,7 @@ plan_full_more g vectors old new plan i d options lt is h grown actions full mor
     (All-take (λ (c : Vec ℕ Global). AreActions (length g.actions) c.items) i plan actions k e below) (full k e below))
     (subst (AreFull vectors new) is more)
 
-all_at : {X : Type 0} (p : X → Bool) (xs : List X) (i : ℕ) (d : X) → i < length xs → list_all p xs ≡ true → p (slice_index_or xs i d) ≡ true
+pub all_at : {X : Type 0} (p : X → Bool) (xs : List X) (i : ℕ) (d : X) → i < length xs → list_all p xs ≡ true → p (slice_index_or xs i d) ≡ true
 all_at p xs i d lt h = go (p (slice_index_or xs i d)) refl
   where
     go : (b : Bool) → p (slice_index_or xs i d) ≡ b → b ≡ true

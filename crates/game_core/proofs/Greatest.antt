@@ -1,5 +1,5 @@
 -- The entries cover each closed list, as they are replaced.
-use Rattle.std.proofs.Common.{◌≡◌, ◌⊎◌, inl, inr, ℕ, zero, suc, ◌+◌, ◌<◌, ◌≤◌, Bool, true, false, ◌||◌, List, [], ◌∷◌, length, refl, sym, ◌∙◌, ap, subst, arith}
+use Rattle.std.proofs.Common.{◌≡◌, ◌⊎◌, inl, inr, ℕ, zero, suc, ◌+◌, ◌<◌, ◌≤◌, Bool, true, false, ◌||◌, List, [], ◌∷◌, length, refl, sym, ◌∙◌, ap, subst, arith, true≢false}
 use Rattle.std.specs.Prelude.{ℤ, pos, slice_index_or, ◌≤ℤ◌}
 use Rattle.std.specs.List.{All, AllPairs, remove}
 use Rattle.std.proofs.lemmas.Bool.{cases_lt}
@@ -12,13 +12,18 @@ use Rattle.word_core.specs.declared.names.Kind.{Kind}
 use Rattle.word_core.specs.declared.names.Kind.TheVariants.{First, Second}
 use Rattle.antichain_list.specs.Antichain.{covered}
 use Rattle.counter_vec.specs.Counters.{at_or_below}
-use Rattle.game_form.specs.Game.{GameData, lanes}
+use Rattle.game_form.specs.Covering.{CoversLetters}
+use Rattle.game_form.specs.Game.{GameData, IsGame, lanes}
+use Rattle.game_form.specs.Held.{IsHeld}
 use Rattle.game_form.specs.Vector.{IsVector, lane, top, initial, successor}
 use Rattle.cpre_step.specs.Refinement.{action_works, all_work, some_works, answers, answers_by}
 use Rattle.game_core.specs.Front.{IsApart, under}
 use Rattle.game_core.specs.Remains.{AreRemains, KeepsAnswered}
-use Rattle.game_core.specs.Solved.{CoversClosed, IsClosed, IsLost, IsSettled}
+use Rattle.game_core.specs.Solved.{Covers, IsClosed, IsLost, IsSettled}
+use Rattle.game_core.proofs.EntriesHeld.{closed_held}
+use Rattle.game_core.proofs.Exact.{has_held}
 use Rattle.game_core.proofs.Extents.{under_trans}
+use Rattle.game_core.proofs.KeptCovered.{kept_answered}
 use Rattle.game_core.proofs.Orders.{below_from}
 use Rattle.game_core.proofs.Works.{any_weaker, all_weaker}
 
@@ -75,11 +80,16 @@ answers_more_by Second g list vs u all =
     (λ k d lt. any_weaker (λ o. action_works g list u o.0) (λ o. action_works g vs u o.0) (slice_index_or g.classes k d).options
     (λ i e below. under_trans vs list (successor g (slice_index_or (slice_index_or g.classes k d).options i e).0 u) all))
 
--- each closed list stays covered
-pub covers_kept : (g : GameData) (vs ws : List (List ℤ)) → CoversClosed g vs → KeepsAnswered g vs ws → CoversClosed g ws
-covers_kept g vs ws covers keeps other closed k d lt =
-    keeps (slice_index_or other k d) (All-from_recursion (IsVector g) other closed.vectors k d lt) (covers other closed k d lt)
-    (answers_more_by g.kind g other vs (slice_index_or other k d) (covers other closed) (closed.closed k d lt))
+-- each closed list stays covered, and what machines keep in the bound
+pub covers_kept : (g : GameData) → IsGame g → (vs ws : List (List ℤ)) → Covers g vs → KeepsAnswered g vs ws → Covers g ws
+covers_kept g known vs ws covers keeps = record {
+  closed = λ other closed k d lt.
+      keeps (slice_index_or other k d) (All-from_recursion (IsVector g) other closed.vectors k d lt) (covers.closed other closed k d lt)
+      (answers_more_by g.kind g other vs (slice_index_or other k d) (covers.closed other closed) (closed.closed k d lt));
+  kept = λ letters m s u fits in_s vector stays.
+      keeps u vector (covers.kept letters m s u fits in_s vector stays)
+      (kept_answered g known vs (covers.kept letters) m fits s in_s u stays letters);
+}
 
 -- the top is at or above every vector
 top_above : (g : GameData) (u : List ℤ) → IsVector g u → at_or_below u (top g) ≡ true
@@ -91,31 +101,40 @@ top_above g u h =
     let e : lane (top g) p ≡ g.k = get_or-map-range_with_len (λ (q : ℕ). g.k) 0 (lanes g) p p (pos 0) in_n (omega arith) in
     subst (λ x. lane u p ≤ℤ x) (sym e) (h.high p lt))
 
-pub top_covers : (g : GameData) → CoversClosed g (top g ∷ [])
-top_covers g other closed k d lt =
-    list_any_at (λ e. at_or_below (slice_index_or other k d) e) (top g ∷ []) 0 (top g) (omega arith)
-    (top_above g (slice_index_or other k d) (All-from_recursion (IsVector g) other closed.vectors k d lt))
+pub top_covers : (g : GameData) → Covers g (top g ∷ [])
+top_covers g = record {
+  closed = λ other closed k d lt. under_top (slice_index_or other k d) (All-from_recursion (IsVector g) other closed.vectors k d lt);
+  kept = λ letters m s u fits in_s vector keeps. under_top u vector;
+}
+  where
+    under_top : (u : List ℤ) → IsVector g u → under (top g ∷ []) u ≡ true
+    under_top u vector = list_any_at (λ e. at_or_below u e) (top g ∷ []) 0 (top g) (omega arith) (top_above g u vector)
 
--- an initial vector that isn't covered is in no closed list
-lost : (g : GameData) (whole : Bool) (vs : List (List ℤ)) → CoversClosed g vs → whole ≡ false → under vs (initial g) ≡ false → IsLost g whole
+held_covered : (g : GameData) (vs : List (List ℤ)) → Covers g vs → CoversLetters g → (v : List ℤ) → IsHeld g v → under vs v ≡ true
+held_covered g vs covers letters v held = covers.kept letters held.machine 0 v held.fits held.fits.machine.begins held.vector held.keeps
+
+-- an initial vector that isn't covered is in no closed list, and isn't held
+lost : (g : GameData) (whole : Bool) (vs : List (List ℤ)) → Covers g vs → whole ≡ false → under vs (initial g) ≡ false → IsLost g whole
 lost g whole vs covers asked missed = record {
   asked = asked;
   missed = λ list closed. go (covered at_or_below (initial g) list) list closed refl;
+  not_held = λ letters held. (let hit : under vs (initial g) ≡ true = held_covered g vs covers letters (initial g) held in true≢false (sym hit ∙ missed));
 }
   where
     go : (b : Bool) (list : List (List ℤ)) → IsClosed g list → covered at_or_below (initial g) list ≡ b → b ≡ false
     go false list closed e = refl
-    go true list closed e = let hit : under vs (initial g) ≡ true = under_trans vs list (initial g) (covers list closed) e in cc
+    go true list closed e = let hit : under vs (initial g) ≡ true = under_trans vs list (initial g) (covers.closed list closed) e in cc
 
-pub lost_seen : (g : GameData) (whole : Bool) (vs seen : List (List ℤ)) (first : List ℤ) → CoversClosed g vs → whole ≡ false → seen ≡ vs → first ≡ initial g → under seen first ≡ false → IsLost g whole
+pub lost_seen : (g : GameData) (whole : Bool) (vs seen : List (List ℤ)) (first : List ℤ) → Covers g vs → whole ≡ false → seen ≡ vs → first ≡ initial g → under seen first ≡ false → IsLost g whole
 lost_seen g whole vs seen first covers asked same is missed =
     lost g whole vs covers asked (ap (λ (xs : List (List ℤ)). under xs (initial g)) (sym same) ∙ ap (under seen) (sym is) ∙ missed)
 
-pub settled_seen : (g : GameData) (whole : Bool) (vs seen : List (List ℤ)) (first : List ℤ) → All (IsVector g) vs → All (λ f. answers g vs f ≡ true) vs → CoversClosed g vs → seen ≡ vs
+pub settled_seen : (g : GameData) (whole : Bool) (vs seen : List (List ℤ)) (first : List ℤ) → IsGame g → AllPairs IsApart vs → All (IsVector g) vs → All (λ f. answers g vs f ≡ true) vs → Covers g vs → seen ≡ vs
     → first ≡ initial g → (whole ≡ false → under seen first ≡ true) → IsSettled g whole vs
-settled_seen g whole vs seen first vectors closed covers same is begins = record {
+settled_seen g whole vs seen first known apart vectors closed covers same is begins = record {
   vectors = recursion_from_All (IsVector g) vs vectors;
   closed = closed;
-  largest = covers;
+  largest = covers.closed;
+  exact = λ letters covering. has_held g vs apart (closed_held g known letters vs vectors closed) (held_covered g vs covers covering);
   begins = λ asked. ap (λ (xs : List (List ℤ)). under xs (initial g)) (sym same) ∙ ap (under seen) (sym is) ∙ begins asked;
 }

@@ -1,11 +1,14 @@
 pub mod Boxes
 pub mod ColumnReads
+pub mod EntriesHeld
+pub mod Exact
 pub mod Extents
 pub mod Failing
 pub mod First
 pub mod FullColumns
 pub mod Greatest
 pub mod Kept
+pub mod KeptCovered
 pub mod Lists
 pub mod Options
 pub mod Orders

@@ -5,7 +5,7 @@ use Rattle.std.specs.List.{list_any, list_all}
 use Rattle.std.proofs.lemmas.List.Elements.{All-from_recursion, recursion_from_All}
 use Rattle.word_core.specs.declared.names.Kind.{Kind}
 use Rattle.word_core.specs.declared.names.Kind.TheVariants.{First, Second}
-use Rattle.antichain_list.specs.Antichain.{covered, added}
+use Rattle.antichain_list.specs.Antichain.{IsAntichain, covered, added}
 use Rattle.antichain_list.specs.Covering.{covered-added}
 use Rattle.counter_vec.specs.Counters.{at_or_below, lexicographic}
 use Rattle.counter_vec.specs.Orders.{counters_order}
@@ -14,6 +14,7 @@ use Rattle.game_form.specs.Vector.{IsVector, initial, successor}
 use Rattle.cpre_step.specs.Refinement.{answers, answers_by}
 use Rattle.game_core.specs.Board.{puts}
 use Rattle.game_core.specs.Solved.{IsClosed, IsSettled}
+use Rattle.game_core.proofs.Exact.{has_held_puts}
 use Rattle.game_core.proofs.Kept.{all_puts}
 
 or_assoc : (a b c : Bool) → ((a || b) || c) ≡ (a || (b || c))
@@ -48,12 +49,13 @@ pub answers_same : (g : GameData) (a b : List (List ℤ)) (f : List ℤ) → ((u
 answers_same g a b f h = answers_same_by g.kind g a b f h
 
 -- a settled list of vectors, as a downset lists them
-pub settled_puts : (g : GameData) (whole : Bool) (vectors list : List (List ℤ)) → IsSettled g whole vectors → list ≡ puts [] vectors → IsSettled g whole list
-settled_puts g whole vectors list h is =
+pub settled_puts : (g : GameData) (whole : Bool) (vectors list : List (List ℤ)) → IsSettled g whole vectors → list ≡ puts [] vectors → IsAntichain at_or_below lexicographic list → IsSettled g whole list
+settled_puts g whole vectors list h is ascends =
     subst (IsSettled g whole) (sym is) (record {
       vectors = all_puts (IsVector g) [] vectors tt h.vectors;
       closed = All-from_recursion Stays (puts [] vectors) (all_puts Stays [] vectors tt (recursion_from_All Stays vectors (λ k d lt. answers_same g (puts [] vectors) vectors _ same ∙ h.closed k d lt)));
       largest = λ other (closed : IsClosed g other) k d lt. same _ ∙ h.largest other closed k d lt;
+      exact = λ letters covering. has_held_puts g vectors (h.exact letters covering) (subst (IsAntichain at_or_below lexicographic) is ascends) same;
       begins = λ asked. same (initial g) ∙ h.begins asked;
     })
   where

@@ -2,6 +2,8 @@
 
 ghost use Rattle.std.specs.Prelude.{◌≡◌, ◌<◌, ◌≤◌, ℕ, ℤ, List, [], true, false, length, vec_len, IfOk, IfSome, IfNone, IsTrue, OnOk, slice_index_or};
 ghost use Rattle.std.specs.List.{All};
+ghost use Rattle.antichain_list.specs.Antichain.{IsAntichain};
+ghost use Rattle.counter_vec.specs.Counters.{at_or_below, lexicographic};
 ghost use Rattle.game_form.specs.Game.{lanes};
 ghost use Rattle.game_form.specs.Vector.{IsVector, bound};
 ghost use Rattle.cpre_step.specs.Refinement.{answers};
@@ -12,7 +14,7 @@ ghost use Rattle.game_core.specs.Front.{extent, under};
 ghost use Rattle.game_core.specs.Known.{HaveAnswers};
 ghost use Rattle.game_core.specs.Plan.{IsPlan};
 ghost use Rattle.game_core.specs.Remains.{AreRemains};
-ghost use Rattle.game_core.specs.Solved.{CoversClosed, IsLost, IsSettled, IsSolution};
+ghost use Rattle.game_core.specs.Solved.{Covers, IsLost, IsSettled, IsSolution};
 
 use crate::commits::put_left;
 use crate::exchanges::{Entries, exchange};
@@ -27,7 +29,7 @@ use std::alloc::{AllocError, Global};
 /// What is known of a game that was solved.
 #[derive(Drop)]
 pub enum Solved {
-    /// The maximal vectors that the player can hold: each list from whose vectors it can stay in the list is at or below them.
+    /// The maximal vectors that the player can hold.
     Held(ListDownset<Counters>),
     /// The initial vector isn't held.
     Lost,
@@ -122,17 +124,19 @@ fn slots_of(plan: &[Vec<u64>]) -> usize
 
 /// The list of these vectors.
 fn downset_of(alloc: Global, vectors: Vec<Counters>) -> Result<ListDownset<Counters>, AllocError>
-    ensures { IfOk result (λ d. d ≡ puts [] vectors.items) }
+    ensures list { IfOk result (λ d. d ≡ puts [] vectors.items) }
+    ensures antichain { IfOk result (IsAntichain at_or_below lexicographic) }
 {
     let mut list = ListDownset::empty(alloc);
     put_left(&mut list, vectors)?;
+    let _ = list.entries();
     Ok(list)
 }
 
 /// The one entry that every vector is at or below.
 fn open_entries(alloc: Global, g: &Game, slots: usize) -> Result<Entries, AllocError>
     ensures entries { IfOk result (λ e. AreEntries g.now slots e.vectors.items e.pending.items e.notes.items) }
-    ensures covers { IfOk result (λ e. CoversClosed g.now e.vectors.items) }
+    ensures covers { IfOk result (λ e. Covers g.now e.vectors.items) }
 {
     g.known();
     let top = Counters::top(alloc, g)?;
@@ -171,10 +175,11 @@ fn refine_all(
     requires each { length plan.now ≤ slots }
     requires entries { AreEntries g.now slots entries.old.vectors.items entries.old.pending.items entries.old.notes.items }
     requires columns { AreColumns g.now entries.old.vectors.items columns.old }
-    requires covers { CoversClosed g.now entries.old.vectors.items }
+    requires covers { Covers g.now entries.old.vectors.items }
     ensures lost { IfOk result (λ b. b ≡ true → IsLost g.now whole) }
     ensures settled { IfOk result (λ b. b ≡ false → IsSettled g.now whole entries.new.vectors.items) }
 {
+    g.known();
     let initial = Counters::initial(alloc, g)?;
     'refining: while let Some(found) = settle(
         alloc,

@@ -1,3 +1,4 @@
+pub mod Covering
 pub mod Game
 pub mod Held
 pub mod Letters

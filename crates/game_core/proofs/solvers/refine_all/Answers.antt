@@ -16,14 +16,14 @@ pub refining-preserved : goal.refining-preserved
 refining-preserved c = (
   c.in_ok-exchange.ensures.entries,
   c.in_ok-exchange.ensures.columns,
-  covers_kept c.args.g.now c.refining.entries.vectors.items c.exchange.new.entries.vectors.items c.refining.invariant.2 c.in_ok-exchange.ensures.keeps,
+  covers_kept c.args.g.now c.known.ensures c.refining.entries.vectors.items c.exchange.new.entries.vectors.items c.refining.invariant.2 c.in_ok-exchange.ensures.keeps,
 )
 
 pub returns-then-is_lost-clause-lost : goal.returns-then-is_lost-clause-lost
 returns-then-is_lost-clause-lost c = λ _.
     let vs : List (List ℤ) = c.exchange.new.entries.vectors.items in
     lost_seen c.args.g.now c.args.whole vs c.deref-in-Some.result.now c.in_ok-initial.initial
-    (covers_kept c.args.g.now c.refining.entries.vectors.items vs c.refining.invariant.2 c.in_ok-exchange.ensures.keeps)
+    (covers_kept c.args.g.now c.known.ensures c.refining.entries.vectors.items vs c.refining.invariant.2 c.in_ok-exchange.ensures.keeps)
     (c.is_lost.ensures.asked c.if-is_lost.true) c.deref-in-Some.ensures.value c.in_ok-initial.ensures (c.is_lost.ensures.missed c.if-is_lost.true)
 
 pub returns-clause-lost : goal.returns-clause-lost
@@ -34,6 +34,6 @@ returns-clause-lost c = λ h.
 pub returns-clause-settled : goal.returns-clause-settled
 returns-clause-settled c = λ h.
     let g = c.args.g.now in
-    settled_seen g c.args.whole c.refining.entries.vectors.items c.deref-2.result.now c.in_ok-initial.initial c.refining.invariant.0.vectors
+    settled_seen g c.args.whole c.refining.entries.vectors.items c.deref-2.result.now c.in_ok-initial.initial c.known.ensures c.refining.invariant.0.apart c.refining.invariant.0.vectors
     (subst (λ (vs : List (List ℤ)). All (λ f. answers g vs f ≡ true) vs) c.deref.ensures.value (rw c.in_default.is at c.in_ok-found.ensures.closed))
     c.refining.invariant.2 c.deref-2.ensures.value c.in_ok-initial.ensures (c.is_lost-2.ensures.covered h)

@@ -16,4 +16,4 @@ refine_all-requires-clause-columns c =
 pub returns : goal.returns
 returns c =
     settled_puts c.args.g.now c.args.whole c.refine_all.new.entries.vectors.items c.in_ok-downset_of.field-0
-    (c.in_ok-refine_all.ensures.settled c.if-branch.false) c.in_ok-downset_of.ensures
+    (c.in_ok-refine_all.ensures.settled c.if-branch.false) c.in_ok-downset_of.ensures.list c.in_ok-downset_of.ensures.antichain
