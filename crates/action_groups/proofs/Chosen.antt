@@ -11,6 +11,7 @@ use Rattle.word_core.specs.declared.names.Kind.TheVariants.{First, Second}
 use Rattle.word_core.specs.declared.names.Player.{Player}
 use Rattle.word_core.specs.Machine.{own_width, other_width}
 use Rattle.game_form.specs.Game.{ClassData, option_at, no_class, of_first}
+use Rattle.game_form.specs.Covering.{CoversLetters}
 use Rattle.game_form.specs.Letters.{HasLetters}
 use Rattle.action_groups.specs.declared.games.Parts.{Parts}
 use Rattle.action_groups.specs.Part.{ArePairs}
@@ -122,3 +123,23 @@ letters_hold player First i o k init width p e h =
 letters_hold player Second i o k init width p e h =
     let w = subst (λ n. HasLetterParts n p) e h in
     λ other n lt below. w.options other n lt below
+
+-- each letter's action is that of an option
+pub covers_hold : (player : Player) (kind : Kind) (i o : ℕ) (k : ℤ) (init : Option ℕ) (width : ℕ) (p : Parts) → width ≡ of_first kind (own_width player i o) (other_width player i o) → HasLetterParts width p → CoversLetters (record {
+  player = player;
+  kind = kind;
+  inputs = i;
+  outputs = o;
+  k = k;
+  init = init;
+  actions = p.actions.items;
+  classes = p.classes.items;
+  letters = p.letters.items;
+  firsts = p.firsts.items;
+})
+covers_hold player First i o k init width p e h =
+    let w = subst (λ n. HasLetterParts n p) e h in
+    λ own n lt below. w.options own n lt below
+covers_hold player Second i o k init width p e h =
+    let w = subst (λ n. HasLetterParts n p) e h in
+    λ place own lt below. w.least place own lt

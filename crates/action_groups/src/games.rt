@@ -15,6 +15,7 @@ ghost use Rattle.action_groups.specs.Rows.{HasRows};
 ghost use Rattle.action_groups.specs.Listing.{IsListedClass, class_from, with_numbers};
 ghost use Rattle.action_groups.specs.Options.{HasOptions};
 ghost use Rattle.action_groups.specs.Parts.{AreParts, HasLetterParts};
+ghost use Rattle.game_form.specs.Covering.{CoversLetters};
 ghost use Rattle.game_form.specs.Letters.{HasLetters};
 ghost use Rattle.game_form.specs.Game.{of_first, lanes};
 ghost use Rattle.word_core.specs.Machine.{own_width, other_width};
@@ -80,6 +81,7 @@ pub fn make_game(
     ensures init { IfOk result (λ g. g.init ≡ a.now.init) }
     ensures lanes { IfOk result (λ g. lanes g ≡ length a.now.states) }
     ensures letters { IfOk result HasLetters }
+    ensures covers { IfOk result CoversLetters }
     ensures rows { IfOk result (HasRows a.now) }
 {
     let width = first_width(player, kind, inputs, outputs);

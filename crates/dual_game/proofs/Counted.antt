@@ -23,7 +23,8 @@ use Rattle.game_form.specs.Game.{GameData, IsGame, lanes, action_at, action_of, 
 use Rattle.game_form.specs.Vector.{lane, vector, number, brought, arrived, successor, bound, begins, initial}
 use Rattle.game_form.specs.Held.{after, InBound, IsMachineOf, KeepsFrom}
 use Rattle.dual_game.specs.Counting.{Counts, CountingIsSound}
-use Rattle.dual_game.specs.Rows.{mark_number, edge_number, HasRows}
+use Rattle.action_groups.specs.Numbers.{mark_number}
+use Rattle.action_groups.specs.Rows.{edge_number, HasRows}
 
 -- what a marked edge adds to a count
 abbrev pub mark : Edge → ℕ

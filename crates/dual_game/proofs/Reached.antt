@@ -22,7 +22,8 @@ use Rattle.game_form.specs.declared.actions.Step.{Step}
 use Rattle.game_form.specs.Game.{GameData, IsGame, lanes, action_at, action_of, row_at, own_width, other_width}
 use Rattle.game_form.specs.Vector.{lane, vector, number, brought, arrived, successor, bound, begins, initial}
 use Rattle.game_form.specs.Held.{after, InBound, IsMachineOf, KeepsFrom}
-use Rattle.dual_game.specs.Rows.{mark_number, edge_number, HasRows}
+use Rattle.action_groups.specs.Numbers.{mark_number}
+use Rattle.action_groups.specs.Rows.{edge_number, HasRows}
 use Rattle.dual_game.specs.Counting.{Counts, CountingIsExact}
 use Rattle.dual_game.proofs.Counted.{mark, number_of_mark, decided, lane_successor, length_successor}
 

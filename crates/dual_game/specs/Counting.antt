@@ -6,7 +6,7 @@ use Rattle.word_core.specs.Run.{Keeps}
 use Rattle.game_form.specs.Game.{GameData, IsGame, lanes}
 use Rattle.game_form.specs.Vector.{initial}
 use Rattle.game_form.specs.Held.{IsMachineOf, KeepsFrom}
-use Rattle.dual_game.specs.Rows.{HasRows}
+use Rattle.action_groups.specs.Rows.{HasRows}
 
 -- the game's lanes are the automaton's states, and its rows have the numbers of the edges
 pub record Counts (a : AutomatonData) (g : GameData) : Type 0 where

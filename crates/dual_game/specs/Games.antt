@@ -9,7 +9,9 @@ use Rattle.word_core.specs.declared.names.Target.TheVariants.{Mealy, Moore}
 use Rattle.word_core.specs.declared.names.Names.{Names}
 use Rattle.word_core.specs.Automaton.{AutomatonData}
 use Rattle.game_form.specs.Game.{GameData, lanes}
+use Rattle.game_form.specs.Covering.{CoversLetters}
 use Rattle.game_form.specs.Letters.{HasLetters}
+use Rattle.action_groups.specs.Rows.{HasRows}
 
 -- under Mealy the system sees the inputs of a step before it chooses, under Moore the environment sees the outputs
 abbrev pub kind_of : Player → Target → Kind
@@ -18,7 +20,7 @@ kind_of System Moore = First
 kind_of Environment Mealy = First
 kind_of Environment Moore = Second
 
--- the game of an automaton over these names for a player, with a bound; its classes and options are those of its letters
+-- the game of an automaton over these names for a player, with a bound; its classes and options are those of its letters, and its rows have the numbers of the edges
 pub record IsGameOf (a : AutomatonData) (names : Names) (who : Player) (k : ℕ) (g : GameData) : Type 0 where
   pub player : g.player ≡ who
   pub kind : g.kind ≡ kind_of who names.target
@@ -28,3 +30,5 @@ pub record IsGameOf (a : AutomatonData) (names : Names) (who : Player) (k : ℕ)
   pub init : g.init ≡ a.init
   pub lanes : lanes g ≡ length a.states
   pub letters : HasLetters g
+  pub covers : CoversLetters g
+  pub rows : HasRows a g

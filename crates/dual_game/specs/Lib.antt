@@ -2,4 +2,3 @@ pub mod Bounds
 pub mod Counting
 pub mod Errors
 pub mod Games
-pub mod Rows

@@ -2,10 +2,11 @@ use Rattle.std.proofs.Common.{◌≡◌, length, sym, subst, arith, w16, SFits}
 use Rattle.std.specs.Prelude.{ℤ}
 use Rattle.std.proofs.lemmas.Int.{to_z-of_z, ints}
 use Rattle.game_form.specs.Game.{GameData, IsGame, lanes}
+use Rattle.game_form.specs.Covering.{CoversLetters}
 use Rattle.game_form.specs.Letters.{HasLetters}
 use Rattle.action_groups.specs.Rows.{HasRows}
 use Rattle.action_groups.proofs.Acts.{rows_hold}
-use Rattle.action_groups.proofs.Chosen.{letters_hold}
+use Rattle.action_groups.proofs.Chosen.{letters_hold, covers_hold}
 use Rattle.action_groups.proofs.Makes.{is_game, lanes_are}
 use Rattle.action_groups.proofs.games.make_game.Goals as goal
 
@@ -33,6 +34,11 @@ pub returns-clause-letters : goal.returns-clause-letters
 returns-clause-letters c =
     subst HasLetters (sym c.make.ensures)
     (letters_hold c.args.player c.args.kind c.args.inputs c.args.outputs _ c.init.result c.first_width-width.result c.in_ok-parts.parts c.first_width-width.ensures.value c.in_ok-parts.ensures.letters)
+
+pub returns-clause-covers : goal.returns-clause-covers
+returns-clause-covers c =
+    subst CoversLetters (sym c.make.ensures)
+    (covers_hold c.args.player c.args.kind c.args.inputs c.args.outputs _ c.init.result c.first_width-width.result c.in_ok-parts.parts c.first_width-width.ensures.value c.in_ok-parts.ensures.letters)
 
 pub returns-clause-rows : goal.returns-clause-rows
 returns-clause-rows c =
