@@ -38,10 +38,12 @@ pub fn decide(alloc: Global, spec: &Spec, bounds: Bounds) -> Result<Verdict, Fau
 {
     let pair = automata(alloc, spec)?;
     let names = &spec.names;
-    let system = game(alloc, &pair.system, names, Player::System, bounds.first)?;
+    let system = quotient(alloc, &pair.system)?;
+    let system = game(alloc, &system, names, Player::System, bounds.first)?;
+    let environment = quotient(alloc, &pair.environment)?;
     let environment = game(
         alloc,
-        &pair.environment,
+        &environment,
         names,
         Player::Environment,
         bounds.first,

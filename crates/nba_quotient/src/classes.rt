@@ -1,4 +1,6 @@
-//! Classes of states: two states are in one class where they have the same edges up to the classes of their ends.
+//! Classes of states: two states are in one class where they have the same edges up to the classes of their ends. An
+//! edge that another one absorbs counts for nothing: the other leads to the same class, holds each letter that it holds,
+//! and is marked where it is.
 
 ghost use Rattle.std.specs.Prelude.{ℕ, ◌≡◌, ◌<◌, ◌≤◌, ◌+◌, ◌^◌, length, All, IfOk, OnOk};
 ghost use Rattle.nba_quotient.specs.Classes.{AreClasses};
@@ -7,8 +9,9 @@ use indexmap::IndexSet;
 use std::alloc::{AllocError, Global};
 use word_core::Automaton;
 
-/// An edge up to the class of its end: the cube, the class and the mark.
-type Way = (u64, u64, u32, bool);
+/// An edge up to the class of its end: the class, the number of signals that the cube cares for, whether it isn't
+/// marked, and the cube's care and want.
+type Way = (u32, u32, bool, u64, u64);
 
 /// What states of one class have in common: the class before, and the edges.
 type Kind = (u32, Vec<Way>);
@@ -95,7 +98,7 @@ fn number_of(kinds: &mut IndexSet<Kind>, kind: Kind) -> Result<usize, AllocError
     Ok(number)
 }
 
-/// The edges of a state up to classes, ascending, each once.
+/// The edges of a state up to classes, ascending, without those that another one absorbs.
 fn ways_of(
     alloc: Global,
     a: &Automaton,
@@ -109,9 +112,41 @@ fn ways_of(
     let mut ways = Vec::with_capacity(alloc, edges.len())?;
     for edge in edges {
         let class = classes.of[edge.next as usize];
-        ways.push((edge.cube.care, edge.cube.want, class, edge.marked))?;
+        let cube = edge.cube;
+        ways.push((
+            class,
+            cube.care.count_ones(),
+            !edge.marked,
+            cube.care,
+            cube.want,
+        ))?;
     }
     ways.sort()?;
-    ways.dedup();
-    Ok(ways)
+    widest(alloc, &ways)
+}
+
+/// The ways that no earlier one absorbs. Wider ones come first, and marked ones before others.
+fn widest(alloc: Global, ways: &[Way]) -> Result<Vec<Way>, AllocError> {
+    let mut kept = Vec::new(alloc);
+    for way in ways {
+        if !is_absorbed(&kept, *way) {
+            kept.push(*way)?;
+        }
+    }
+    Ok(kept)
+}
+
+/// Whether one of the ways leads to the same class, holds each letter that this one holds, and counts no less.
+fn is_absorbed(kept: &[Way], way: Way) -> bool {
+    let (class, _, is_unmarked, care, want) = way;
+    for (other, _, other_unmarked, other_care, other_want) in kept {
+        if *other == class
+            && (is_unmarked || !*other_unmarked)
+            && care & *other_care == *other_care
+            && want & *other_care == *other_want
+        {
+            return true;
+        }
+    }
+    false
 }
