@@ -1,5 +1,7 @@
 pub mod Form
 pub mod Formula
+pub mod Meaning
+pub mod NodeTrees
 pub mod Normal
 pub mod Numbering
 pub mod Tree
