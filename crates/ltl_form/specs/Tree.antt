@@ -12,6 +12,7 @@ pub data Tree : Type 0 where
   following : Tree → Tree
   until : Tree → Tree → Tree
   release : Tree → Tree → Tree
+  deriving Discrete as Tree-discrete
 
 abbrev pub is_truth : Tree → Bool
 is_truth truth = true

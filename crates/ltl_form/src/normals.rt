@@ -1,7 +1,10 @@
 //! The normal form: negations at signals alone, constants folded, equal formulas numbered once.
 
-ghost use Rattle.std.specs.Prelude.{if◌then◌else◌, ◌≡◌, ◌<◌, ◌≤◌, ◌+◌, length, true, IfOk, ℕ};
+ghost use Rattle.std.specs.Prelude.{not, if◌then◌else◌, ◌≡◌, ◌<◌, ◌≤◌, ◌+◌, length, true, IfOk, ℕ};
 ghost use Rattle.ltl_form.specs.Formula.{signals_below};
+ghost use Rattle.ltl_form.specs.Meaning.{holds_at, tree_holds};
+ghost use Rattle.ltl_form.specs.Tree.{normal_tree};
+ghost use Rattle.word_core.specs.Lasso.{LassoData, size};
 ghost use Rattle.ltl_form.specs.Normal.{IsNormal, LiteralsBelow};
 ghost use Rattle.ltl_form.specs.declared.normals.FormError.TheVariants.{Memory};
 
@@ -94,6 +97,7 @@ impl<T: Drop> From<AllocFailed<T>> for FormError {
 /// Every signal is below 64. TooManyFormulas exactly where the normal form has more than 512 formulas.
 pub fn nnf(alloc: Global, f: &Ltl, positive: bool) -> Result<Normal, FormError>
     requires { signals_below 64 f.now ≡ true }
+    ensures meaning { (w : LassoData) (p : ℕ) → 0 < size w → IfOk result (λ normal. tree_holds w (normal_tree f.now positive) p ≡ (if positive then holds_at w f.now p else not (holds_at w f.now p))) }
     ensures literals { (n : ℕ) → signals_below n f.now ≡ true → IfOk result (λ normal. LiteralsBelow n normal.nodes) }
 {
     let mut forms = Forms::new(alloc);

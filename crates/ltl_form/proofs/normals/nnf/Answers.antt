@@ -3,6 +3,7 @@ use Rattle.ltl_form.specs.Form.{tree_at}
 use Rattle.ltl_form.specs.Normal.{LiteralsBelow}
 use Rattle.ltl_form.specs.Tree.{tree_below}
 use Rattle.ltl_form.proofs.Below.{normal_below, chosen_is}
+use Rattle.ltl_form.proofs.SidesMean.{normal_means}
 use Rattle.ltl_form.proofs.normals.nnf.Goals as goal
 
 no_literals : (n : ℕ) → LiteralsBelow n []
@@ -10,6 +11,7 @@ no_literals n k d l = absurd (omega arith)
 
 pub returns : goal.returns
 returns c = record {
+  meaning = λ w p some. normal_means w some c.args.f.now c.args.positive p;
   literals = λ n h.
       let is =
       ap (λ l. tree_at l c.chosen-place.result) c.as_slice-forms.ensures.value
