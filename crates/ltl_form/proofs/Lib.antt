@@ -1,5 +1,8 @@
 pub mod Below
 pub mod Chains
+pub mod NodeLists
+pub mod NumberLemmas
+pub mod NumberSteps
 pub mod SidesMean
 pub mod Signals
 pub mod Trees

@@ -4,6 +4,7 @@ use Rattle.ltl_form.specs.Normal.{LiteralsBelow}
 use Rattle.ltl_form.specs.Tree.{tree_below}
 use Rattle.ltl_form.proofs.Below.{normal_below, chosen_is}
 use Rattle.ltl_form.proofs.SidesMean.{normal_means}
+use Rattle.ltl_form.proofs.NodeLists.{numbered_again}
 use Rattle.ltl_form.proofs.normals.nnf.Goals as goal
 
 no_literals : (n : ℕ) → LiteralsBelow n []
