@@ -1,6 +1,7 @@
 pub mod Below
 pub mod Chains
 pub mod NodeLists
+pub mod NormalForms
 pub mod NumberLemmas
 pub mod NumberSteps
 pub mod SidesMean

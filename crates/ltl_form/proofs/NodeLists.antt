@@ -257,6 +257,13 @@ module _ (nodes : List Node) (node : Node) (ok : IsNodeList nodes) (distinct : A
   pub inserted : (list_any (eq-value.it node) nodes ≡ true) ⊎ (length nodes < 512) → length nodes ≤ 512 → IsNumbered (insert_key eq-value.it nodes node)
   inserted h few = record { few = inserted_few h few; below = inserted_ok; distinct = inserted_distinct }
 
+pub numbered_nil : (nodes : List Node) → nodes ≡ [] → IsNumbered nodes
+numbered_nil nodes none = subst IsNumbered (sym none) record {
+  few = omega arith;
+  below = λ n d l. absurd (omega arith);
+  distinct = λ m n d l in_n same. let none : length (node_trees []) ≡ 0 = node_trees-length [] in absurd (omega arith);
+}
+
 -- a formula is put to those that have numbers
 pub puts : (old new : NumberingData) (at : ℕ) (node : Node) (n : ℕ) → IsNumbered old.nodes → IsNodeAt (length old.nodes) node → new.nodes ≡ insert_key eq-value.it old.nodes node
     → (k : Node) → slice_get new.nodes n ≡ Some k → eq-value.it node k ≡ true → new.numbers ≡ set old.numbers at (Some n) → Puts old new at node n

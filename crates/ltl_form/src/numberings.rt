@@ -50,12 +50,12 @@ impl Numbering {
         })
     }
 
-    /// The formulas by number.
-    pub fn nodes(&self) -> &[Node]
-        ensures value { result.now ≡ self.now.nodes }
+    /// A copy of the formulas by number.
+    pub fn nodes(&self, alloc: Global) -> Result<Vec<Node>, AllocError>
+        ensures value { IfOk result (λ nodes. nodes.items ≡ self.now.nodes) }
         ensures numbered { IsNumbered self.now.nodes }
     {
-        self.nodes.as_slice()
+        self.nodes.as_slice().iter().copied().collect(alloc)
     }
 
     /// The number of the form at a place, inside `depth` others.
