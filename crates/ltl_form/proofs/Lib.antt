@@ -4,7 +4,9 @@ pub mod NodeLists
 pub mod NormalForms
 pub mod NumberLemmas
 pub mod NumberSteps
+pub mod RowSteps
 pub mod SidesMean
 pub mod Signals
 pub mod Trees
 pub mod Truths
+pub mod Walks

@@ -75,7 +75,7 @@ module _ (w : LassoData) where
   no_until f g zero p = refl
   no_until f g (suc n) p = not_or (g p) (f p) _ _ (no_until f g n (after w p))
 
-  no_release : (f g : Where) (n p : ℕ) → until_within w (λ i. not (f i)) (λ i. not (g i)) n p ≡ not (release_within w f g n p)
+  pub no_release : (f g : Where) (n p : ℕ) → until_within w (λ i. not (f i)) (λ i. not (g i)) n p ≡ not (release_within w f g n p)
   no_release f g zero p = refl
   no_release f g (suc n) p = not_and (g p) (f p) _ _ (no_release f g n (after w p))
 

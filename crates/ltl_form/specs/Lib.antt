@@ -5,4 +5,5 @@ pub mod NodeTrees
 pub mod Normal
 pub mod Numbered
 pub mod Numbering
+pub mod Rows
 pub mod Tree
