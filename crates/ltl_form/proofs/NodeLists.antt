@@ -1,11 +1,11 @@
 -- The trees of numbered formulas, and the numbers of their operands.
-use Rattle.std.proofs.Common.{Bool, true, false, if◌then◌else◌, nat_lt, ◌⊎◌, inl, inr, set, ◌≡◌, ℕ, zero, suc, ◌+◌, ◌<◌, ◌≤◌, All, List, [], ◌∷◌, ◌++◌, length, fold, get_or, take, drop, refl, ap, sym, ◌∙◌, subst, arith, rules, length-append, length-take}
+use Rattle.std.proofs.Common.{Bool, true, false, if◌then◌else◌, nat_lt, ◌⊎◌, inl, inr, set, ◌≡◌, ℕ, zero, suc, ◌+◌, ◌<◌, ◌≤◌, List, [], ◌∷◌, ◌++◌, length, fold, get_or, take, drop, refl, ap, sym, ◌∙◌, subst, arith, rules, length-append, length-take}
 use borrow.Author.Tests.{ltb-true, ltb-false}
 use Rattle.std.specs.Prelude.{slice_get, Some}
 use Rattle.std.specs.List.{list_any, Contains, Any}
 use Rattle.indexmap.specs.IndexSet.{insert_key}
 use Rattle.std.proofs.lemmas.Option.{slice_get_within, get_or_from_slice_get}
-use Rattle.std.proofs.lemmas.List.{get_or_append_left, get_or_push, get_or_at, get_or_default, take-append-drop, drop_more, length_push}
+use Rattle.std.proofs.lemmas.List.{get_or_append_left, get_or_push, get_or_default, take-append-drop, drop_more, length_push}
 use Rattle.std.proofs.lemmas.List.Folds.{Any-from_list_any, list_any_at}
 use Rattle.ltl_form.specs.contracts.normals.NodePartialEq.TheImpl.{eq-value}
 use Rattle.ltl_form.specs.declared.normals.Node.{Node}

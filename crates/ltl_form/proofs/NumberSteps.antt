@@ -1,5 +1,5 @@
 -- What forms have numbers, one more at a time.
-use Rattle.std.proofs.Common.{Bool, true, false, nat_eq, ◌≡◌, ℕ, suc, ◌+◌, ◌<◌, ◌≤◌, max, List, [], ◌∷◌, length, get_or, set, Option, Some, None, refl, ap, sym, ◌∙◌, subst, arith}
+use Rattle.std.proofs.Common.{Bool, true, false, nat_eq, ◌≡◌, ℕ, suc, ◌+◌, ◌<◌, ◌≤◌, max, List, length, get_or, set, Some, None, refl, ap, sym, ◌∙◌, subst, arith}
 use borrow.Author.Tests.{eqb-true, eqb-false}
 use Rattle.std.proofs.lemmas.List.{get_or-set_same, get_or-set_other, length-set}
 use Rattle.std.specs.Prelude.{Result, Ok, Err, IsErrAnd, IfErr}
@@ -14,7 +14,7 @@ use Rattle.ltl_form.specs.Normal.{IsNodeAt}
 use Rattle.ltl_form.specs.NodeTrees.{node_tree, node_trees, formula_at}
 use Rattle.ltl_form.specs.Numbered.{with_tree, numbered, height}
 use Rattle.ltl_form.specs.Numbering.{NumberingData, AreOf, Numbers, NumbersTwo, NumbersInside, Puts, operands_numbered}
-use Rattle.ltl_form.proofs.NumberLemmas.{Grown, grown, numbered_is, with_longer, with_same, operands_longer, height_some}
+use Rattle.ltl_form.proofs.NumberLemmas.{grown, numbered_is, with_longer, with_same, operands_longer, height_some}
 use Rattle.ltl_form.proofs.NodeLists.{IsNodeList, node_trees-length, numbered_again}
 
 -- an error that is passed on

@@ -1,11 +1,11 @@
 -- The normal form of a formula holds where the formula does, and that of its negation where it doesn't.
-use Rattle.std.proofs.Common.{◌≡◌, ℕ, zero, suc, ◌<◌, Bool, true, false, not, ◌&&◌, ◌||◌, if◌then◌else◌, List, [], ◌∷◌, map, fold, length, refl, ap, sym, ◌∙◌, subst, arith}
+use Rattle.std.proofs.Common.{◌≡◌, ℕ, zero, suc, ◌<◌, Bool, true, false, not, ◌&&◌, ◌||◌, if◌then◌else◌, List, [], ◌∷◌, map, fold, refl, ap, sym, ◌∙◌, subst, arith}
 use Rattle.word_core.specs.Lasso.{LassoData, size}
 use Rattle.ltl_form.specs.declared.formulas.Ltl.{Ltl}
 use Rattle.ltl_form.specs.declared.formulas.Ltl.TheOpen.{Ltl-F}
 use Rattle.ltl_form.specs.declared.formulas.Ltl.TheViews.{roll-Ltl}
-use Rattle.ltl_form.specs.declared.formulas.Ltl.TheFolds.{fold-Ltl, fold-roll-Ltl, ind-Ltl, map-Ltl}
-use Rattle.ltl_form.specs.Tree.{Tree, truth, falsity, literal, conjoined, disjoined, following, until, release, is_truth, is_falsity, conjunction, disjunction, next_of, until_of, release_of, Sides, true_sides, false_sides, signal_sides, not_sides, and_sides, or_sides, equiv_sides, next_sides, until_sides, release_sides, all_sides, any_sides, sides_step, sides, normal_tree}
+use Rattle.ltl_form.specs.declared.formulas.Ltl.TheFolds.{fold-roll-Ltl, ind-Ltl, map-Ltl}
+use Rattle.ltl_form.specs.Tree.{Tree, truth, falsity, literal, conjoined, disjoined, following, until, release, is_truth, is_falsity, conjunction, disjunction, next_of, until_of, release_of, Sides, true_sides, false_sides, signal_sides, not_sides, and_sides, or_sides, equiv_sides, next_sides, until_sides, release_sides, sides_step, sides, normal_tree}
 use Rattle.ltl_form.specs.Meaning.{after, signal_at, until_within, release_within, until_at, release_at, all_at, any_at, holds_step, holds_at, tree_holds}
 use Rattle.ltl_form.proofs.Truths.{true_and, and_true, false_and, and_false, true_or, or_true, false_or, or_false, both_and, both_or, both_not, not_and, not_or, not_not, and_nothing, not_same, weak_step}
 

@@ -1,9 +1,9 @@
 -- Walks over the positions of a lasso: one that has gone through the cycle once says no more.
-use Rattle.std.proofs.Common.{◌≡◌, ℕ, zero, suc, ◌+◌, ◌-◌, ◌<◌, ◌≤◌, ◌⊎◌, inl, inr, Bool, true, false, not, ◌&&◌, ◌||◌, nat_lt, if◌then◌else◌, List, length, refl, ap, sym, ◌∙◌, subst, arith}
-use borrow.Author.Tests.{ltb-true, ltb-false, lt-ltb, le-ltb}
+use Rattle.std.proofs.Common.{◌≡◌, ℕ, zero, suc, ◌+◌, ◌-◌, ◌<◌, ◌≤◌, ◌⊎◌, inl, inr, Bool, true, false, not, ◌&&◌, ◌||◌, nat_lt, if◌then◌else◌, length, refl, ap, sym, ◌∙◌, arith}
+use borrow.Author.Tests.{ltb-true, lt-ltb, le-ltb}
 use Rattle.std.proofs.lemmas.Bool.{and_parts, and_from, cases_lt}
 use Rattle.word_core.specs.Lasso.{LassoData, size}
-use Rattle.ltl_form.specs.Meaning.{after, until_within, release_within, until_at, release_at}
+use Rattle.ltl_form.specs.Meaning.{after, until_within, release_within}
 use Rattle.ltl_form.proofs.Truths.{both_and, both_or, not_not}
 use Rattle.ltl_form.proofs.SidesMean.{no_release}
 

@@ -1,5 +1,5 @@
 -- Numbers of formulas, in the order of their first occurrence.
-use Rattle.std.specs.Prelude.{◌≡◌, ℕ, ◌+◌, ◌<◌, ◌≤◌, List, [], ◌∷◌, length, set, Option, Some, None, slice_index_or}
+use Rattle.std.specs.Prelude.{◌≡◌, ℕ, ◌<◌, ◌≤◌, List, length, set, Option, Some, None, slice_index_or}
 use Rattle.ltl_form.specs.declared.forms.Form.{Form}
 use Rattle.ltl_form.specs.declared.normals.Node.{Node}
 use Rattle.ltl_form.specs.Form.{tree_at}

@@ -1,7 +1,5 @@
-use Rattle.std.proofs.Common.{◌&&◌, ◌||◌}
-use Rattle.ltl_form.specs.Meaning.{after, tree_holds}
+use Rattle.std.proofs.Common.{◌&&◌}
 use Rattle.ltl_form.specs.Rows.{at, Tells}
-use Rattle.ltl_form.specs.Tree.{literal}
 use Rattle.ltl_form.proofs.meanings.and_row.Given as goal
 
 abbrev pub invariant-loop-p : goal.invariant-loop-p

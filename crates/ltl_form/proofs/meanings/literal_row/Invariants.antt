@@ -1,6 +1,5 @@
-use Rattle.std.proofs.Common.{◌&&◌, ◌||◌}
-use Rattle.ltl_form.specs.Meaning.{after, tree_holds}
-use Rattle.ltl_form.specs.Rows.{at, Tells}
+use Rattle.ltl_form.specs.Meaning.{tree_holds}
+use Rattle.ltl_form.specs.Rows.{Tells}
 use Rattle.ltl_form.specs.Tree.{literal}
 use Rattle.ltl_form.proofs.meanings.literal_row.Given as goal
 

@@ -1,7 +1,7 @@
-use Rattle.std.proofs.Common.{◌≡◌, ℕ, ◌+◌, ◌-◌, ◌<◌, length, true, false, refl, ap, sym, ◌∙◌, subst, arith}
+use Rattle.std.proofs.Common.{◌≡◌, ◌+◌, ◌-◌, ◌<◌, length, true, false, ap, ◌∙◌, arith}
 use Rattle.std.proofs.lemmas.List.{get_or-replicate}
 use Rattle.word_core.specs.Lasso.{size}
-use Rattle.ltl_form.specs.Meaning.{release_within, release_at}
+use Rattle.ltl_form.specs.Meaning.{release_within}
 use Rattle.ltl_form.specs.Rows.{at, Tells}
 use Rattle.ltl_form.proofs.RowSteps.{release_passes}
 use Rattle.ltl_form.proofs.meanings.release_row.Goals as goal

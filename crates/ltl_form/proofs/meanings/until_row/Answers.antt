@@ -1,7 +1,7 @@
-use Rattle.std.proofs.Common.{◌≡◌, ℕ, ◌+◌, ◌-◌, ◌<◌, length, true, false, refl, ap, sym, ◌∙◌, subst, arith}
+use Rattle.std.proofs.Common.{◌≡◌, ◌+◌, ◌-◌, ◌<◌, length, false, ap, ◌∙◌, arith}
 use Rattle.std.proofs.lemmas.List.{get_or-replicate}
 use Rattle.word_core.specs.Lasso.{size}
-use Rattle.ltl_form.specs.Meaning.{until_within, until_at}
+use Rattle.ltl_form.specs.Meaning.{until_within}
 use Rattle.ltl_form.specs.Rows.{at, Tells}
 use Rattle.ltl_form.proofs.RowSteps.{until_passes}
 use Rattle.ltl_form.proofs.meanings.until_row.Goals as goal

@@ -22,8 +22,8 @@ invariant_of-self-2 c =
     let old = c.self.inside.nodes.keys in
     let fits : IsNodeAt (length old) c.args.node = subst (λ v. IsNodeAt (length v.nodes) c.args.node) (sym c.self.view_is) c.requires.node in
     let room : (list_any (eq-value.it c.args.node) old ≡ true) ⊎ (length old < 512) = elim c.else-len-eq-MOST.branch [
-    else-len-eq-MOST-via-then-len-eq-MOST+else-not-contains w ↦ inl (sym w.contains.ensures ∙ w.if-not-contains.false)
-    | else-len-eq-MOST-via-else-len-eq-MOST w ↦ inr (let l : c.len.result ≡ length old = c.len.ensures.len in omega (arith, l, c.self.invariant.few, w.if-len-eq-MOST.false))
+      | else-len-eq-MOST-via-then-len-eq-MOST+else-not-contains w ↦ inl (sym w.contains.ensures ∙ w.if-not-contains.false)
+      | else-len-eq-MOST-via-else-len-eq-MOST w ↦ inr (let l : c.len.result ≡ length old = c.len.ensures.len in omega (arith, l, c.self.invariant.few, w.if-len-eq-MOST.false))
     ] in
     subst IsNumbered (sym c.in_ok-number.ensures.keys)
     (inserted old c.args.node c.self.invariant.below c.self.invariant.distinct fits room c.self.invariant.few)
