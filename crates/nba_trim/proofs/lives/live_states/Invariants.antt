@@ -1,8 +1,16 @@
-use Rattle.std.proofs.Common.{◌≡◌, length}
+use Rattle.std.proofs.Common.{◌≡◌, ℕ, ◌+◌, ◌-◌, ◌<◌, ◌≤◌, true, length, get_or, take, All, Some}
+use Rattle.std.specs.List.{Contains}
+use Rattle.word_core.specs.Automaton.{edges_at}
+use Rattle.nba_trim.specs.Search.{AreStates, AreStateLists, AddsSource, AreSources, Finds, at, trues, ends, is_start, Rejoins, Reached, IsBoundedOutside}
+use Rattle.nba_trim.proofs.Finding.{Spread}
 use Rattle.nba_trim.proofs.lives.live_states.Given as goal
 
 abbrev pub invariant-loop-live : goal.invariant-loop-live
-invariant-loop-live l = length l.live.items ≡ length l.a.states
+invariant-loop-live l = record {
+  each : length l.live.items ≡ length l.a.states;
+  sizes : l.size ≡ trues l.live.items;
+  outside : (bound : ℕ) × IsBoundedOutside l.a l.live.items bound;
+}
 
 abbrev pub decreases-loop-live : goal.decreases-loop-live
 decreases-loop-live l = l.size
