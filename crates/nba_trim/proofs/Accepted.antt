@@ -1,21 +1,20 @@
 -- The trimmed automaton accepts the same lassos.
-use Rattle.std.proofs.Common.{◌≡◌, ℕ, zero, suc, ◌+◌, ◌<◌, ◌≤◌, ◌⊎◌, inl, inr, Bool, true, false, if◌then◌else◌, List, [], ◌∷◌, ◌++◌, length, get_or, map, take, Option, Some, None, refl, ap, sym, ◌∙◌, subst, arith}
-use Rattle.std.specs.Prelude.{◌↔◌}
+use Rattle.std.proofs.Common.{◌≡◌, ℕ, zero, suc, ◌+◌, ◌<◌, ◌≤◌, ◌⊎◌, inl, inr, Bool, true, false, if◌then◌else◌, List, [], ◌∷◌, length, get_or, take, Option, Some, None, refl, ap, sym, ◌∙◌, subst, arith}
 use Rattle.std.specs.Option.{IsSomeAnd}
-use Rattle.std.specs.List.{Contains, filter_map, cons_option}
+use Rattle.std.specs.List.{Contains, cons_option}
 use Rattle.std.proofs.lemmas.Bool.{cases_lt}
-use Rattle.std.proofs.lemmas.List.{get_or-map, length-map, take_all, take-append-le, length_push}
+use Rattle.std.proofs.lemmas.List.{get_or-map, take_all, take-append-le, length_push}
 use Rattle.word_core.specs.declared.automata.Edge.{Edge}
 use Rattle.word_core.specs.Automaton.{AutomatonData, edges_at}
 use Rattle.word_core.specs.Cube.{holds}
 use Rattle.word_core.specs.Lasso.{LassoData, prefix, bits_at}
 use Rattle.word_core.specs.Run.{IsRunFrom, IsRun, count, Accepts}
-use Rattle.nba_trim.specs.Live.{IsPath, IsLive, IsReachable}
-use Rattle.nba_trim.specs.Search.{at, ends, Reached, first_state, edge_on, AreReached, AreLive}
+use Rattle.nba_trim.specs.Live.{IsPath}
+use Rattle.nba_trim.specs.Search.{at, Reached, first_state, edge_on, AreReached, AreLive}
 use Rattle.nba_trim.specs.Numbers.{AreTrue}
-use Rattle.nba_trim.specs.Trimmed.{number_of, number_if, edge_to, kept_edge, kept_edges, restricted, AreKept, IsTrimmed, AcceptSame}
-use Rattle.nba_trim.proofs.Paths.{ends_at, live_is, reached_all, reached_live, reachable}
-use Rattle.nba_trim.proofs.Numbering.{IsNumber, is_number, HasNumber, has_number}
+use Rattle.nba_trim.specs.Trimmed.{number_of, number_if, edge_to, kept_edge, kept_edges, restricted, AreKept, HasNoLiveFirst, AcceptSame}
+use Rattle.nba_trim.proofs.Paths.{ends_at, live_is, is_live, reached_all, reached_live, reachable}
+use Rattle.nba_trim.proofs.Numbering.{is_number, has_number}
 
 -- the first letters of a part of the unrolling are a part of it
 prefix_length : (w : LassoData) (n : ℕ) → length (prefix w n) ≡ n
@@ -229,9 +228,31 @@ module _ (a : AutomatonData) (live reached : List Bool) (kept : List ℕ) (are :
   kept_are = record {
     ascending = these.ascending;
     exactly = λ q. (
-        (λ c. let r = on.sound q (these.sound q c) in (live_is a live are q (reached_live a live q r), reachable a live q r)),
-        (λ h. these.complete q (on.complete q (reached_all a live are q h.0 h.1))));
+      (λ c. let r = on.sound q (these.sound q c) in (live_is a live are q (reached_live a live q r), reachable a live q r)),
+      (λ h. these.complete q (on.complete q (reached_all a live are q h.0 h.1))),
+    );
   }
 
   pub accept_same : AcceptSame a (restricted a kept)
   accept_same w = (accepts_back a kept w, accepts_on a kept live are (λ q r. these.complete q (on.complete q r)) w)
+
+  -- where the first state isn't live, none is kept
+  none_kept : HasNoLiveFirst a → kept ≡ []
+  none_kept dead = go kept refl
+    where
+      go : (states : List ℕ) → kept ≡ states → kept ≡ []
+      go [] e = e
+      go (q ∷ qs) e =
+          let c : Contains kept q = subst (λ states. Contains states q) (sym e) (zero, omega arith, refl) in
+          let r = on.sound q (these.sound q c) in
+          let s = reachable a live q r in
+          absurd (dead s.first s.begins (live_is a live are s.first (is_live a live are s.first q s.path s.is (live_is a live are q (reached_live a live q r)))))
+
+  none_numbered : (o : Option ℕ) → number_if [] o ≡ None
+  none_numbered None = refl
+  none_numbered (Some q) = refl
+
+  pub none_left : (t : AutomatonData) → t ≡ restricted a kept → HasNoLiveFirst a → (t.states ≡ []) × (t.init ≡ None)
+  none_left t is dead =
+      let e : t ≡ restricted a [] = is ∙ ap (restricted a) (none_kept dead) in
+      (ap (λ (t : AutomatonData). t.states) e, ap (λ (t : AutomatonData). t.init) e ∙ none_numbered a.init)

@@ -1,8 +1,8 @@
 -- What a search finds, one state more.
-use Rattle.std.proofs.Common.{◌≡◌, ℕ, suc, ◌+◌, ◌<◌, ◌≤◌, ◌⊎◌, inl, inr, Bool, true, false, nat_eq, List, [], ◌∷◌, ◌++◌, length, get_or, set, take, map, replicate, refl, ap, sym, ◌∙◌, subst, arith}
-use Rattle.std.specs.List.{All, Contains}
+use Rattle.std.proofs.Common.{◌≡◌, ℕ, ◌+◌, ◌<◌, ◌≤◌, ◌⊎◌, inl, inr, Bool, true, false, nat_eq, List, [], ◌∷◌, ◌++◌, length, get_or, set, take, replicate, refl, ap, sym, ◌∙◌, subst, arith}
+use Rattle.std.specs.List.{Contains}
 use borrow.Author.Tests.{eqb-true, eqb-false}
-use Rattle.std.proofs.lemmas.List.{get_or_default, take_more, length_push, length-set, get_or_append_left, get_or-set_same, get_or-set_other, take-map}
+use Rattle.std.proofs.lemmas.List.{get_or_default, take_more, length_push, length-set, get_or_append_left, get_or-set_same, get_or-set_other}
 use Rattle.std.proofs.lemmas.List.Elements.{All-nil, All-push, All-weaker, Contains-push, Contains-push_cases, Contains-append_left}
 use Rattle.nba_trim.specs.Search.{AreStates, SearchData, IsSearch, Finds, at, trues}
 use Rattle.nba_trim.proofs.Trues.{trues_low, trues_set, trues_none, none_true}

@@ -1,13 +1,12 @@
 -- New numbers of kept states: the place of each among them.
-use Rattle.std.proofs.Common.{◌≡◌, ℕ, zero, suc, ◌+◌, ◌<◌, ◌≤◌, ◌⊎◌, inl, inr, Bool, true, false, not, cond, if◌then◌else◌, nat_eq, nat_lt, List, [], ◌∷◌, ◌++◌, length, get_or, set, replicate, Option, Some, None, refl, ap, sym, ◌∙◌, subst, arith}
+use Rattle.std.proofs.Common.{◌≡◌, ℕ, zero, suc, ◌+◌, ◌<◌, ◌≤◌, ◌⊎◌, inl, inr, Bool, true, false, not, cond, if◌then◌else◌, nat_eq, List, [], ◌∷◌, ◌++◌, length, get_or, set, replicate, Option, Some, None, refl, ap, sym, ◌∙◌, subst, arith}
 use Rattle.std.specs.Option.{IfSome}
-use Rattle.std.specs.List.{All, AllPairs, Contains, position, position_or_len}
-use borrow.Author.Tests.{eqb-true, eqb-false, eq-eqb, ltb-true, ltb-false, lt-ltb}
-use Rattle.std.proofs.lemmas.Bool.{cases_lt}
-use Rattle.std.proofs.lemmas.List.{length_push, length-set, get_or-set_same, get_or-set_other, get_or_default}
-use Rattle.std.proofs.lemmas.List.Elements.{Contains-get_or, Contains-push, Contains-push_cases, Contains-append_left, All-contains}
+use Rattle.std.specs.List.{AllPairs, Contains, position, position_or_len}
+use borrow.Author.Tests.{eqb-true, eqb-false, eq-eqb, lt-ltb}
+use Rattle.std.proofs.lemmas.List.{length_push, get_or-set_same, get_or-set_other}
+use Rattle.std.proofs.lemmas.List.Elements.{Contains-get_or, Contains-push, Contains-push_cases, Contains-append_left}
 use Rattle.std.proofs.lemmas.List.Quantifiers.{all_pairs_push, position-Some}
-use Rattle.nba_trim.specs.Search.{AreStates, at}
+use Rattle.nba_trim.specs.Search.{at}
 use Rattle.nba_trim.specs.Numbers.{AreTrue, AreNumbers}
 use Rattle.nba_trim.specs.Trimmed.{number_of}
 use Rattle.nba_trim.proofs.Trues.{true_within}
@@ -121,6 +120,7 @@ given_none numbers count kept is = record {
   given = λ q j h. let n : get_or numbers q None ≡ None = ap (λ l. get_or l q None) is ∙ none_at count q in absurd (cc);
   all = λ j l. absurd (omega arith);
 }
+
 pub given_more : (numbers : List (Option ℕ)) (kept : List ℕ) (k : ℕ) → AllPairs (λ p q. p < q) kept → k < length kept → get_or kept k 0 < length numbers → AreGiven numbers kept k
     → AreGiven (set numbers (get_or kept k 0) (Some k)) kept (k + 1)
 given_more numbers kept k ascending l within h = record {

@@ -1,7 +1,7 @@
 -- Paths through an automaton, and the marked edges on them.
-use Rattle.std.proofs.Common.{◌≡◌, ℕ, zero, suc, ◌+◌, ◌<◌, ◌≤◌, ◌⊎◌, inl, inr, Bool, true, false, ◌&&◌, if◌then◌else◌, List, [], ◌∷◌, ◌++◌, length, get_or, map, replicate, refl, ap, sym, ◌∙◌, subst, arith}
-use Rattle.std.specs.Prelude.{Option, Some}
-use Rattle.std.specs.List.{All, Contains, Any, list_any}
+use Rattle.std.proofs.Common.{◌≡◌, ℕ, zero, suc, ◌+◌, ◌<◌, ◌≤◌, ◌⊎◌, inl, inr, Bool, true, false, ◌&&◌, if◌then◌else◌, List, [], ◌∷◌, ◌++◌, length, get_or, replicate, refl, ap, sym, ◌∙◌, subst, arith}
+use Rattle.std.specs.Prelude.{Some}
+use Rattle.std.specs.List.{All, Contains}
 use Rattle.std.proofs.lemmas.Bool.{and_parts, and_from, cases_lt}
 use Rattle.std.proofs.lemmas.List.{get_or-map, length-map, get_or_past}
 use Rattle.std.proofs.lemmas.List.Elements.{All-contains, Contains-get_or}
@@ -10,7 +10,7 @@ use Rattle.word_core.specs.declared.automata.Edge.{Edge}
 use Rattle.word_core.specs.Automaton.{AutomatonData, edges_at}
 use Rattle.word_core.specs.Run.{count}
 use Rattle.nba_trim.specs.Live.{IsPath, Returns, IsLive, IsReachable}
-use Rattle.nba_trim.specs.Search.{ends, at, trues, has_mark, is_start, Rejoins, marked_edge, edge_back, Reached, first_state, edge_on, AreRejoining, AreReached, IsBoundedOutside, AreLive}
+use Rattle.nba_trim.specs.Search.{ends, at, trues, has_mark, is_start, Rejoins, marked_edge, edge_back, Reached, first_state, edge_on, AreRejoining, IsBoundedOutside, AreLive}
 use Rattle.nba_trim.proofs.Trues.{all_true_at, trues_all}
 
 -- the end of an edge

@@ -1,5 +1,5 @@
 -- The live states of an automaton, and the states that its first one reaches.
-use Rattle.std.specs.Prelude.{◌≡◌, ℕ, ◌<◌, List, [], ◌∷◌, Option, Some}
+use Rattle.std.specs.Prelude.{◌≡◌, ℕ, ◌<◌, List, [], ◌∷◌, Some}
 use Rattle.std.specs.List.{All, Contains}
 use Rattle.word_core.specs.declared.automata.Edge.{Edge}
 use Rattle.word_core.specs.Automaton.{AutomatonData, edges_at}

@@ -1,6 +1,6 @@
 -- New numbers of kept states.
-use Rattle.std.specs.Prelude.{◌≡◌, ℕ, ◌<◌, ◌≤◌, ◌↔◌, Bool, true, List, length, Option, Some, None, slice_index_or}
-use Rattle.std.specs.List.{All, AllPairs, Contains}
+use Rattle.std.specs.Prelude.{◌≡◌, ℕ, ◌<◌, ◌≤◌, Bool, true, List, length, Option, Some, None, slice_index_or}
+use Rattle.std.specs.List.{AllPairs, Contains}
 use Rattle.nba_trim.specs.Search.{AreStates, at}
 
 pub record NumbersData : Type 0 where

@@ -1,5 +1,5 @@
 -- Searches through the states of an automaton.
-use Rattle.std.specs.Prelude.{◌≡◌, ℕ, zero, suc, ◌<◌, ◌≤◌, ◌⊎◌, Bool, true, false, ◌&&◌, List, [], ◌∷◌, length, map, Option, Some, slice_index_or}
+use Rattle.std.specs.Prelude.{◌≡◌, ℕ, suc, ◌<◌, ◌≤◌, ◌⊎◌, Bool, true, false, ◌&&◌, List, [], ◌∷◌, length, map, Some, slice_index_or}
 use Rattle.std.specs.List.{All, Contains, list_any}
 use Rattle.word_core.specs.declared.automata.Edge.{Edge}
 use Rattle.word_core.specs.Automaton.{AutomatonData, edges_at}

@@ -45,6 +45,10 @@ pub record IsTrimmed (a t : AutomatonData) : Type 0 where
   pub are : AreKept a kept
   pub is : t ≡ restricted a kept
 
+-- the first state isn't live, or there is none
+abbrev pub HasNoLiveFirst : AutomatonData → Type 0
+HasNoLiveFirst a = (q : ℕ) → a.init ≡ Some q → IsLive a q → ⊥
+
 -- two automata accept the same lassos
 abbrev pub AcceptSame : AutomatonData → AutomatonData → Type 0
 AcceptSame a t = (w : LassoData) → Accepts t w ↔ Accepts a w

@@ -79,11 +79,7 @@ fn push_if(list: &mut Vec<u32>, q: u32, is_wanted: bool) -> Result<(), AllocErro
 }
 
 /// By state its place among the kept ones.
-fn numbers_of(
-    alloc: Global,
-    reached: &[bool],
-    kept: &[u32],
-) -> Result<Vec<Option<u32>>, AllocError>
+fn numbers_of(alloc: Global, reached: &[bool], kept: &[u32]) -> Result<Vec<Option<u32>>, AllocError>
     requires counted { length reached.now < 2 ^ 32 }
     requires kept { AreTrue reached.now kept.now }
     ensures count { IfOk result (λ numbers. length numbers.items ≡ length reached.now) }

@@ -1,8 +1,9 @@
 //! The automaton of the live states that the first one reaches.
 
-ghost use Rattle.std.specs.Prelude.{◌≡◌, ◌<◌, length, map, All, IfOk, IfSome};
+ghost use Rattle.std.specs.Prelude.{◌≡◌, ◌<◌, ◌++◌, [], length, map, All, IfOk, OnOk, IfSome, None};
+ghost use Rattle.std.specs.List.{cons_option};
 ghost use Rattle.word_core.specs.Automaton.{IsEdge, edges_at};
-ghost use Rattle.nba_trim.specs.Trimmed.{number_if, edge_to, kept_edges, IsTrimmed, AcceptSame};
+ghost use Rattle.nba_trim.specs.Trimmed.{number_if, edge_to, kept_edges, HasNoLiveFirst, IsTrimmed, AcceptSame};
 
 use crate::lives::live_states;
 use crate::numbers::Numbers;
@@ -17,6 +18,7 @@ use word_core::{Automaton, Edge, State};
 pub fn trim(alloc: Global, a: &Automaton) -> Result<Automaton, AllocError>
     ensures signals { IfOk result (λ t. t.signals ≡ a.now.signals) }
     ensures exact { IfOk result (λ t. IsTrimmed a.now t) }
+    ensures none { HasNoLiveFirst a.now → IfOk result (λ t. (t.states ≡ []) × (t.init ≡ None)) }
     ensures accepts { IfOk result (λ t. AcceptSame a.now t) }
 {
     let live = live_states(alloc, a)?;
@@ -70,11 +72,22 @@ fn edges_of(
 {
     let mut edges = Vec::new(alloc);
     for edge in a.edges(q) {
-        if let Some(kept) = moved(edge, numbers.of(edge.next)) {
-            edges.push(kept)?;
-        }
+        push_some(&mut edges, moved(edge, numbers.of(edge.next)))?;
     }
     Ok(edges)
+}
+
+/// Adds an edge to a list, where there is one.
+fn push_some(list: &mut Vec<Edge>, edge: Option<Edge>) -> Result<(), AllocError>
+    ensures { OnOk result (list.new.items ≡ list.old.items ++ cons_option edge []) }
+{
+    match edge {
+        Some(edge) => {
+            list.push(edge)?;
+        }
+        None => {}
+    }
+    Ok(())
 }
 
 /// The edge with another end, where there is one.

@@ -1,4 +1,4 @@
-use Rattle.std.proofs.Common.{◌≡◌, ◌<◌, ◌+◌, take, ◌++◌, ◌∷◌, [], false, length, get_or, set, ap, sym, ◌∙◌, subst, arith}
+use Rattle.std.proofs.Common.{◌<◌, ◌+◌, take, ◌++◌, ◌∷◌, [], false, length, get_or, set, ap, sym, ◌∙◌, subst, arith}
 use Rattle.std.proofs.lemmas.List.{get_or_read}
 use Rattle.word_core.specs.declared.automata.Edge.{Edge}
 use Rattle.nba_trim.specs.Search.{AreStateLists, AddsSource}

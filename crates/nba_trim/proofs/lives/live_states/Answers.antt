@@ -1,4 +1,4 @@
-use Rattle.std.proofs.Common.{◌≡◌, suc, ◌≤◌, length, replicate, true, ap, sym, ◌∙◌, subst, arith}
+use Rattle.std.proofs.Common.{◌≡◌, suc, length, replicate, true, ap, ◌∙◌, subst, arith}
 use Rattle.std.proofs.lemmas.List.{length-replicate}
 use Rattle.nba_trim.specs.Search.{trues, AreRejoining}
 use Rattle.nba_trim.proofs.Paths.{outside_all, bounded_more, live_when}

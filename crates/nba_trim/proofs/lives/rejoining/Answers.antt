@@ -1,8 +1,7 @@
 use Rattle.std.proofs.Common.{◌≡◌, ◌<◌, ◌≤◌, length, get_or, true, [], ap, sym, ◌∙◌, subst, arith}
 use Rattle.std.specs.List.{Contains}
 use Rattle.std.proofs.lemmas.List.{get_or_read}
-use Rattle.word_core.specs.Automaton.{edges_at}
-use Rattle.nba_trim.specs.Search.{Finds, Rejoins, marked_edge, edge_back, ends, at, is_start, AreRejoining}
+use Rattle.nba_trim.specs.Search.{Finds, Rejoins, marked_edge, edge_back, at, is_start, AreRejoining}
 use Rattle.nba_trim.proofs.Trues.{true_within}
 use Rattle.nba_trim.proofs.Finding.{spread_begin, spread_step, spread_end}
 use Rattle.nba_trim.proofs.Paths.{rejoins_closed, start_live}

@@ -1,5 +1,4 @@
-use Rattle.std.proofs.Common.{◌≡◌, ◌+◌, length, sym, subst}
-use Rattle.word_core.specs.Automaton.{edges_at}
+use Rattle.std.proofs.Common.{subst}
 use Rattle.nba_trim.specs.Search.{AreStateLists, AddsSource}
 use Rattle.nba_trim.proofs.Sources.{sources_more}
 use Rattle.nba_trim.proofs.lives.sources_of.Goals as goal

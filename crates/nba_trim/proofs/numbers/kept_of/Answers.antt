@@ -1,4 +1,4 @@
-use Rattle.std.proofs.Common.{◌≡◌, ◌+◌, sym, subst}
+use Rattle.std.proofs.Common.{◌+◌, sym, subst}
 use Rattle.nba_trim.proofs.Numbering.{AreBelow, below_more}
 use Rattle.nba_trim.proofs.numbers.kept_of.Goals as goal
 

@@ -1,4 +1,3 @@
-use Rattle.std.proofs.Common.{◌≡◌, true}
 use Rattle.nba_trim.proofs.Sources.{finds_end}
 use Rattle.nba_trim.proofs.reaches.add_ends.Goals as goal
 

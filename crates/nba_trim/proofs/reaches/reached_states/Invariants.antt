@@ -1,7 +1,7 @@
-use Rattle.std.proofs.Common.{◌≡◌, ℕ, ◌+◌, ◌-◌, ◌<◌, ◌≤◌, true, length, get_or, take, All, Some}
+use Rattle.std.proofs.Common.{◌≡◌, ◌-◌, true, length, Some}
 use Rattle.std.specs.List.{Contains}
 use Rattle.word_core.specs.Automaton.{edges_at}
-use Rattle.nba_trim.specs.Search.{AreStates, AreStateLists, AddsSource, AreSources, Finds, at, trues, ends, is_start, Rejoins, Reached, IsBoundedOutside}
+use Rattle.nba_trim.specs.Search.{at, ends, Reached}
 use Rattle.nba_trim.proofs.Finding.{Spread}
 use Rattle.nba_trim.proofs.reaches.reached_states.Given as goal
 

@@ -1,6 +1,4 @@
-use Rattle.std.proofs.Common.{◌≡◌, ◌∙◌, ap, sym, take, length, arith}
-use Rattle.std.proofs.lemmas.List.{take_all}
-use Rattle.nba_trim.specs.Search.{trues}
+use Rattle.std.proofs.Common.{arith}
 use Rattle.nba_trim.proofs.Trues.{trues_more}
 use Rattle.nba_trim.proofs.searches.count_true.Goals as goal
 

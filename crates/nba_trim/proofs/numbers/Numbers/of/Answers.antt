@@ -1,4 +1,4 @@
-use Rattle.std.proofs.Common.{◌≡◌, ◌<◌, ◌∙◌, sym, ap, subst, None, length, get_or, arith}
+use Rattle.std.proofs.Common.{◌≡◌, ◌<◌, ◌∙◌, sym, ap, subst, None, length, get_or}
 use Rattle.std.proofs.lemmas.List.{get_or_read}
 use Rattle.nba_trim.specs.Numbers.{AreNumbers}
 use Rattle.nba_trim.specs.Trimmed.{number_of}

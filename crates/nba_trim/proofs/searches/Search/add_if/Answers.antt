@@ -1,6 +1,6 @@
-use Rattle.std.proofs.Common.{◌≡◌, ◌<◌, length, true, false, ap, sym, ◌∙◌, subst, set, arith}
+use Rattle.std.proofs.Common.{◌≡◌, ◌<◌, length, true, false, sym, ◌∙◌, subst, set}
 use Rattle.std.proofs.lemmas.List.{get_or_read}
-use Rattle.nba_trim.specs.Search.{IsSearch, Finds, at}
+use Rattle.nba_trim.specs.Search.{IsSearch, at}
 use Rattle.nba_trim.proofs.Finding.{search_push}
 use Rattle.nba_trim.proofs.searches.Search.add_if.Goals as goal
 

@@ -1,4 +1,4 @@
-use Rattle.std.proofs.Common.{◌≡◌, ◌≤◌, length, subst, arith, rules}
+use Rattle.std.proofs.Common.{◌≡◌, length, subst, arith, rules}
 use Rattle.nba_trim.specs.Search.{IsSearch}
 use Rattle.nba_trim.proofs.Finding.{search_few}
 use Rattle.nba_trim.proofs.searches.Search.len.Goals as goal

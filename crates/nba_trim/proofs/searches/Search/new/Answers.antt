@@ -1,6 +1,5 @@
-use Rattle.std.proofs.Common.{◌≡◌, ap, sym, subst, ◌∙◌}
-use Rattle.nba_trim.specs.Search.{IsSearch, at}
-use Rattle.nba_trim.proofs.Trues.{none_true}
+use Rattle.std.proofs.Common.{sym, subst}
+use Rattle.nba_trim.specs.Search.{IsSearch}
 use Rattle.nba_trim.proofs.Finding.{search_none}
 use Rattle.nba_trim.proofs.searches.Search.new.Goals as goal
 
