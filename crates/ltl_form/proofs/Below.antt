@@ -4,8 +4,8 @@ use Rattle.std.proofs.lemmas.Bool.{and_parts}
 use Rattle.ltl_form.specs.declared.formulas.Ltl.{Ltl}
 use Rattle.ltl_form.specs.declared.formulas.Ltl.TheOpen.{Ltl-F}
 use Rattle.ltl_form.specs.declared.formulas.Ltl.TheViews.{roll-Ltl}
-use Rattle.ltl_form.specs.declared.formulas.Ltl.TheFolds.{fold-Ltl, fold-roll-Ltl, ind-Ltl, map-Ltl}
-use Rattle.ltl_form.specs.Tree.{Tree, truth, falsity, literal, conjoined, disjoined, following, until, release, is_truth, is_falsity, conjunction, disjunction, next_of, until_of, release_of, Sides, true_sides, false_sides, signal_sides, not_sides, and_sides, or_sides, equiv_sides, next_sides, until_sides, release_sides, all_sides, any_sides, sides_step, sides, tree_below, normal_tree}
+use Rattle.ltl_form.specs.declared.formulas.Ltl.TheFolds.{fold-roll-Ltl, ind-Ltl, map-Ltl}
+use Rattle.ltl_form.specs.Tree.{Tree, is_truth, is_falsity, conjunction, disjunction, next_of, until_of, release_of, Sides, true_sides, false_sides, not_sides, and_sides, or_sides, equiv_sides, until_sides, release_sides, sides_step, sides, tree_below, normal_tree}
 use Rattle.ltl_form.specs.declared.forms.Form.{Form}
 use Rattle.ltl_form.specs.declared.forms.Pair.{Pair}
 use Rattle.ltl_form.specs.Form.{tree_at, sides_at}

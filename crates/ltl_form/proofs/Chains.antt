@@ -1,12 +1,12 @@
 -- A chain of operands, one more at a time.
-use Rattle.std.proofs.Common.{◌≡◌, ℕ, ◌+◌, ◌<◌, List, [], ◌∷◌, ◌++◌, length, fold, map, take, get_or, refl, ap, sym, ◌∙◌, subst, arith}
+use Rattle.std.proofs.Common.{◌≡◌, ℕ, ◌+◌, ◌<◌, List, [], ◌∷◌, length, fold, map, take, get_or, refl, ap, ◌∙◌}
 use Rattle.std.proofs.lemmas.List.{take_more, map-append}
 use Rattle.std.proofs.lemmas.Grind.{fold-append}
 use Rattle.ltl_form.specs.declared.formulas.Ltl.{Ltl}
 use Rattle.ltl_form.specs.declared.forms.Form.{Form}
 use Rattle.ltl_form.specs.declared.forms.Pair.{Pair}
 use Rattle.ltl_form.specs.Tree.{Sides, sides}
-use Rattle.ltl_form.specs.Form.{MadePair, IsPairBelow, Keeps, sides_at, tree_at}
+use Rattle.ltl_form.specs.Form.{MadePair, IsPairBelow, Keeps, sides_at}
 use Rattle.ltl_form.proofs.Trees.{keeps_both}
 
 module _ (op : Sides → Sides → Sides) (start : Sides) where

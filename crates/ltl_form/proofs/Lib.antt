@@ -1,4 +1,12 @@
 pub mod Below
 pub mod Chains
+pub mod NodeLists
+pub mod NormalForms
+pub mod NumberLemmas
+pub mod NumberSteps
+pub mod RowSteps
+pub mod SidesMean
 pub mod Signals
 pub mod Trees
+pub mod Truths
+pub mod Walks

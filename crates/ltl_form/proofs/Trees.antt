@@ -1,14 +1,14 @@
 -- The trees of forms: each is the one of its form over the trees before it, and stays as forms are added.
-use Rattle.std.proofs.Common.{Bool, true, false, if◌then◌else◌, nat_lt, slice_get, Some, rules, ◌≡◌, ℕ, suc, ◌+◌, ◌<◌, ◌≤◌, List, [], ◌∷◌, ◌++◌, length, fold, get_or, take, drop, refl, ap, sym, ◌∙◌, subst, arith, length-append, length-take}
+use Rattle.std.proofs.Common.{Bool, true, false, if◌then◌else◌, nat_lt, slice_get, Some, rules, ◌≡◌, ℕ, ◌+◌, ◌<◌, ◌≤◌, List, [], ◌∷◌, ◌++◌, length, get_or, take, drop, refl, ap, sym, ◌∙◌, subst, arith, length-append, length-take}
 use borrow.Author.Tests.{ltb-true, ltb-false}
 use Rattle.std.specs.List.{list_any}
 use Rattle.indexmap.specs.IndexSet.{insert_key}
 use Rattle.std.proofs.lemmas.Option.{slice_get_within, get_or_from_slice_get}
 use Rattle.ltl_form.specs.contracts.forms.FormPartialEq.TheImpl.{eq-value}
-use Rattle.std.proofs.lemmas.List.{get_or_append_left, get_or_push, get_or_at, take-append-drop, drop_more, get_or_default, length_push}
+use Rattle.std.proofs.lemmas.List.{get_or_append_left, get_or_push, take-append-drop, drop_more}
 use Rattle.ltl_form.specs.declared.forms.Form.{Form}
 use Rattle.ltl_form.specs.declared.forms.Form.TheVariants.{True, False, Lit, And, Or, Next, Until, Release}
-use Rattle.ltl_form.specs.Tree.{Tree, truth, falsity, literal, conjoined, disjoined, following, until, release, is_truth, is_falsity}
+use Rattle.ltl_form.specs.Tree.{Tree, truth, is_truth, is_falsity}
 use Rattle.ltl_form.specs.Form.{IsFormAt, IsFormList, tree_of, trees_after, tree_at, Keeps, Made}
 
 -- one form more

@@ -1,5 +1,5 @@
 -- Folded formulas by place.
-use Rattle.std.specs.Prelude.{◌≡◌, ℕ, ◌+◌, ◌<◌, ◌≤◌, List, [], ◌∷◌, ◌++◌, length, fold, slice_index_or}
+use Rattle.std.specs.Prelude.{◌≡◌, ℕ, ◌<◌, ◌≤◌, List, [], ◌∷◌, ◌++◌, length, fold, slice_index_or}
 use Rattle.ltl_form.specs.declared.forms.Form.{Form}
 use Rattle.ltl_form.specs.declared.forms.Form.TheVariants.{True, False, Lit, And, Or, Next, Until, Release}
 use Rattle.ltl_form.specs.declared.forms.Pair.{Pair}

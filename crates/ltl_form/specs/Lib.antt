@@ -3,5 +3,7 @@ pub mod Formula
 pub mod Meaning
 pub mod NodeTrees
 pub mod Normal
+pub mod Numbered
 pub mod Numbering
+pub mod Rows
 pub mod Tree

@@ -1,5 +1,5 @@
 -- Truth on lassos. A walk from a position goes over as many positions as the lasso is long.
-use Rattle.std.specs.Prelude.{ℕ, zero, suc, ◌≡◌, Bool, true, false, not, ◌&&◌, ◌||◌, nat_lt, nat_eq, List, [], ◌∷◌, length, if◌then◌else◌}
+use Rattle.std.specs.Prelude.{ℕ, zero, suc, Bool, true, false, not, ◌&&◌, ◌||◌, nat_lt, nat_eq, List, [], ◌∷◌, length, if◌then◌else◌}
 use Rattle.std.specs.Int.{bit_at}
 use Rattle.word_core.specs.Lasso.{LassoData, size, bits_at}
 use Rattle.ltl_form.specs.declared.formulas.Ltl.{Ltl, fold-Ltl}

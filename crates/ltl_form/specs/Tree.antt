@@ -1,5 +1,5 @@
 -- Formulas in normal form as trees. Their constants are folded from the inside outwards.
-use Rattle.std.specs.Prelude.{ℕ, Bool, true, false, ◌&&◌, nat_lt, List, [], ◌∷◌, fold, if◌then◌else◌}
+use Rattle.std.specs.Prelude.{ℕ, Bool, true, false, ◌&&◌, nat_lt, List, fold, if◌then◌else◌}
 use Rattle.ltl_form.specs.declared.formulas.Ltl.{Ltl, fold-Ltl}
 use Rattle.ltl_form.specs.declared.formulas.Ltl.TheOpen.{Ltl-F}
 
@@ -12,6 +12,7 @@ pub data Tree : Type 0 where
   following : Tree → Tree
   until : Tree → Tree → Tree
   release : Tree → Tree → Tree
+  deriving Discrete as Tree-discrete
 
 abbrev pub is_truth : Tree → Bool
 is_truth truth = true

@@ -1,11 +1,17 @@
 //! The normal form: negations at signals alone, constants folded, equal formulas numbered once.
 
-ghost use Rattle.std.specs.Prelude.{if◌then◌else◌, ◌≡◌, ◌<◌, ◌≤◌, ◌+◌, length, true, IfOk, ℕ};
+ghost use Rattle.std.specs.Prelude.{not, if◌then◌else◌, ◌≡◌, ◌<◌, ◌≤◌, ◌+◌, length, true, IfOk, IfErr, ℕ, []};
 ghost use Rattle.ltl_form.specs.Formula.{signals_below};
+ghost use Rattle.ltl_form.specs.Meaning.{holds_at, tree_holds};
+ghost use Rattle.ltl_form.specs.Form.{IsFormList, tree_at};
+ghost use Rattle.ltl_form.specs.Tree.{normal_tree, tree_below};
+ghost use Rattle.word_core.specs.Lasso.{LassoData, size};
 ghost use Rattle.ltl_form.specs.Normal.{IsNormal, LiteralsBelow};
-ghost use Rattle.ltl_form.specs.declared.normals.FormError.TheVariants.{Memory};
+ghost use Rattle.ltl_form.specs.NodeTrees.{node_trees, formula_at};
+ghost use Rattle.ltl_form.specs.Numbered.{numbered, AreDistinct};
+ghost use Rattle.ltl_form.specs.declared.normals.FormError.TheVariants.{Memory, TooManyFormulas};
 
-use crate::forms::{Forms, Pair};
+use crate::forms::{Form, Forms, Pair};
 use crate::formulas::Ltl;
 use crate::numberings::Numbering;
 use crate::pairs::pair_of;
@@ -94,18 +100,35 @@ impl<T: Drop> From<AllocFailed<T>> for FormError {
 /// Every signal is below 64. TooManyFormulas exactly where the normal form has more than 512 formulas.
 pub fn nnf(alloc: Global, f: &Ltl, positive: bool) -> Result<Normal, FormError>
     requires { signals_below 64 f.now ≡ true }
+    ensures exact { IfOk result (λ normal. node_trees normal.nodes ≡ numbered (normal_tree f.now positive) []) }
+    ensures root { IfOk result (λ normal. formula_at normal.nodes normal.root ≡ normal_tree f.now positive) }
+    ensures distinct { IfOk result (λ normal. AreDistinct (node_trees normal.nodes)) }
+    ensures few { IfOk result (λ normal. length (numbered (normal_tree f.now positive) []) ≤ 512) }
+    ensures too_many { IfErr result (λ e. e ≡ TooManyFormulas → 512 < length (numbered (normal_tree f.now positive) [])) }
+    ensures meaning { (w : LassoData) (p : ℕ) → 0 < size w → IfOk result (λ normal. tree_holds w (formula_at normal.nodes normal.root) p ≡ (if positive then holds_at w f.now p else not (holds_at w f.now p))) }
     ensures literals { (n : ℕ) → signals_below n f.now ≡ true → IfOk result (λ normal. LiteralsBelow n normal.nodes) }
 {
     let mut forms = Forms::new(alloc);
     let pair = pair_of(&mut forms, f)?;
     let place = chosen(pair, positive);
-    let forms = forms.as_slice();
+    normal_at(alloc, forms.as_slice(), place)
+}
+
+/// The normal form that is the form at a place.
+fn normal_at(alloc: Global, forms: &[Form], place: usize) -> Result<Normal, FormError>
+    requires forms { IsFormList forms.now }
+    requires place { place < length forms.now }
+    ensures exact { IfOk result (λ normal. node_trees normal.nodes ≡ numbered (tree_at forms.now place) []) }
+    ensures root { IfOk result (λ normal. formula_at normal.nodes normal.root ≡ tree_at forms.now place) }
+    ensures distinct { IfOk result (λ normal. AreDistinct (node_trees normal.nodes)) }
+    ensures few { IfOk result (λ normal. length (numbered (tree_at forms.now place) []) ≤ 512) }
+    ensures too_many { IfErr result (λ e. e ≡ TooManyFormulas → 512 < length (numbered (tree_at forms.now place) [])) }
+    ensures literals { (n : ℕ) → tree_below n (tree_at forms.now place) ≡ true → IfOk result (λ normal. LiteralsBelow n normal.nodes) }
+{
     let mut numbering = Numbering::new(alloc, forms.len())?;
     let root = numbering.new_number(forms, place, 0)?;
-    Ok(Normal {
-        nodes: numbering.into_nodes(),
-        root,
-    })
+    let nodes = numbering.nodes(alloc)?;
+    Ok(Normal { nodes, root })
 }
 
 /// The place of the formula, or of its negation.

@@ -1,13 +1,17 @@
 //! Numbers of formulas, in the order of their first occurrence.
 
-ghost use Rattle.std.specs.Prelude.{◌≡◌, ◌<◌, ◌≤◌, ◌+◌, length, true, ℕ, IfOk, OnOk, None, Some, [], ◌∷◌, ◌++◌, slice_index_or};
+ghost use Rattle.std.specs.Prelude.{◌≡◌, ◌<◌, ◌≤◌, ◌+◌, length, List, max, IfOk, IfErr, []};
+ghost use Rattle.ltl_form.specs.declared.forms.Form.{Form};
 ghost use Rattle.ltl_form.specs.Form.{IsFormAt, IsFormList, tree_at, tree_of, trees_after};
-ghost use Rattle.ltl_form.specs.Normal.{IsNodeAt, IsLiteralBelow, LiteralsBelow};
-ghost use Rattle.ltl_form.specs.Numbering.{IsNumbered, Goes};
-ghost use Rattle.ltl_form.specs.Tree.{tree_below};
+ghost use Rattle.ltl_form.specs.Normal.{IsNodeAt};
+ghost use Rattle.ltl_form.specs.NodeTrees.{node_tree, node_trees};
+ghost use Rattle.ltl_form.specs.Numbered.{numbered, height, with_tree};
+ghost use Rattle.ltl_form.specs.Numbering.{IsNumbered, AreOf, Numbers, NumbersTwo, NumbersInside, Puts, operands_numbered};
+ghost use Rattle.ltl_form.specs.declared.normals.FormError.TheVariants.{TooManyFormulas};
 
 use crate::forms::Form;
 use crate::normals::{FormError, Node};
+use indexmap::IndexSet;
 use std::alloc::{AllocError, Global};
 use std::marker::Model;
 
@@ -17,7 +21,7 @@ pub const MOST: usize = 512;
 /// The formulas that have numbers, and the number of each form that has one.
 #[derive(Drop)]
 pub struct Numbering {
-    nodes: Vec<Node>,
+    nodes: IndexSet<Node>,
     numbers: Vec<Option<u32>>,
 }
 
@@ -27,9 +31,9 @@ impl Model for Numbering {
 
     ghost Value = { NumberingData };
 
-    ghost view = { λ n. record { nodes = n.nodes.items; numbers = n.numbers.items } };
+    ghost view = { λ n. record { nodes = n.nodes.keys; numbers = n.numbers.items } };
 
-    ghost invariant = { λ n. IsNumbered n.nodes.items n.numbers.items };
+    ghost invariant = { λ n. IsNumbered n.nodes.keys };
 }
 
 impl Numbering {
@@ -37,21 +41,21 @@ impl Numbering {
     pub fn new(alloc: Global, forms: usize) -> Result<Numbering, AllocError>
         ensures nodes { IfOk result (λ n. n.nodes ≡ []) }
         ensures forms { IfOk result (λ n. length n.numbers ≡ forms) }
+        ensures are { IfOk result (λ n. (list : List Form) → AreOf list n) }
     {
         let numbers = vec![in alloc; None; forms]?;
         Ok(Numbering {
-            nodes: Vec::new(alloc),
+            nodes: IndexSet::new(alloc),
             numbers,
         })
     }
 
-    /// The formulas by number.
-    pub fn into_nodes(self) -> Vec<Node>
-        ensures value { result.items ≡ self.nodes }
-        ensures numbered { IsNumbered self.nodes self.numbers }
+    /// A copy of the formulas by number.
+    pub fn nodes(&self, alloc: Global) -> Result<Vec<Node>, AllocError>
+        ensures value { IfOk result (λ nodes. nodes.items ≡ self.now.nodes) }
+        ensures numbered { IsNumbered self.now.nodes }
     {
-        let Numbering { nodes, numbers } = self;
-        nodes
+        self.nodes.as_slice().iter().copied().collect(alloc)
     }
 
     /// The number of the form at a place, inside `depth` others.
@@ -59,11 +63,11 @@ impl Numbering {
     fn number(&mut self, forms: &[Form], at: usize, depth: usize) -> Result<u32, FormError>
         requires forms { IsFormList forms.now }
         requires numbers { length self.old.numbers ≡ length forms.now }
+        requires are { AreOf forms.now self.old }
         requires place { at < length forms.now }
         requires depth { depth ≤ 512 }
-        ensures place { IfOk result (λ n. n < length self.new.nodes) }
-        ensures goes { OnOk result (Goes self.old self.new) }
-        ensures literals { (n : ℕ) → tree_below n (tree_at forms.now at) ≡ true → LiteralsBelow n self.old.nodes → OnOk result (LiteralsBelow n self.new.nodes) }
+        ensures exact { IfOk result (λ n. Numbers forms.now self.old self.new at n) }
+        ensures over { IfErr result (λ e. e ≡ TooManyFormulas → 512 < max (length (numbered (tree_at forms.now at) (node_trees self.old.nodes))) (depth + height (tree_at forms.now at))) }
     {
         if let Some(number) = self.numbers[at] {
             return Ok(number);
@@ -76,12 +80,11 @@ impl Numbering {
     pub fn new_number(&mut self, forms: &[Form], at: usize, depth: usize) -> Result<u32, FormError>
         requires forms { IsFormList forms.now }
         requires numbers { length self.old.numbers ≡ length forms.now }
+        requires are { AreOf forms.now self.old }
         requires place { at < length forms.now }
         requires depth { depth ≤ 512 }
-        ensures last { IfOk result (λ n. n + 1 ≡ length self.new.nodes) }
-        ensures place { IfOk result (λ n. n < length self.new.nodes) }
-        ensures goes { OnOk result (Goes self.old self.new) }
-        ensures literals { (n : ℕ) → tree_below n (tree_at forms.now at) ≡ true → LiteralsBelow n self.old.nodes → OnOk result (LiteralsBelow n self.new.nodes) }
+        ensures exact { IfOk result (λ n. Numbers forms.now self.old self.new at n) }
+        ensures over { IfErr result (λ e. e ≡ TooManyFormulas → 512 < max (length (numbered (tree_at forms.now at) (node_trees self.old.nodes))) (depth + height (tree_at forms.now at))) }
     {
         if depth == MOST {
             return Err(FormError::TooManyFormulas);
@@ -95,11 +98,11 @@ impl Numbering {
     fn node(&mut self, forms: &[Form], at: usize, depth: usize) -> Result<Node, FormError>
         requires forms { IsFormList forms.now }
         requires numbers { length self.old.numbers ≡ length forms.now }
+        requires are { AreOf forms.now self.old }
         requires place { at < length forms.now }
         requires depth { depth < 512 }
-        ensures node { IfOk result (IsNodeAt (length self.new.nodes)) }
-        ensures goes { OnOk result (Goes self.old self.new) }
-        ensures literals { (n : ℕ) → tree_below n (tree_at forms.now at) ≡ true → LiteralsBelow n self.old.nodes → IfOk result (λ node. IsLiteralBelow n node × LiteralsBelow n self.new.nodes) }
+        ensures exact { IfOk result (λ node. NumbersInside forms.now self.old self.new at node) }
+        ensures over { IfErr result (λ e. e ≡ TooManyFormulas → 512 < max (length (operands_numbered (tree_at forms.now at) (node_trees self.old.nodes))) (depth + height (tree_at forms.now at))) }
     {
         match form_at(forms, at) {
             Form::True => Ok(Node::True),
@@ -136,32 +139,30 @@ impl Numbering {
     ) -> Result<(u32, u32), FormError>
         requires forms { IsFormList forms.now }
         requires numbers { length self.old.numbers ≡ length forms.now }
+        requires are { AreOf forms.now self.old }
         requires left { f < length forms.now }
         requires right { g < length forms.now }
         requires depth { depth ≤ 512 }
-        ensures left { IfOk result (λ n. n.0 < length self.new.nodes) }
-        ensures right { IfOk result (λ n. n.1 < length self.new.nodes) }
-        ensures goes { OnOk result (Goes self.old self.new) }
-        ensures literals { (n : ℕ) → tree_below n (tree_at forms.now f) ≡ true → tree_below n (tree_at forms.now g) ≡ true → LiteralsBelow n self.old.nodes → OnOk result (LiteralsBelow n self.new.nodes) }
+        ensures exact { IfOk result (λ n. NumbersTwo forms.now self.old self.new f g n.0 n.1) }
+        ensures over { IfErr result (λ e. e ≡ TooManyFormulas → 512 < max (length (numbered (tree_at forms.now g) (numbered (tree_at forms.now f) (node_trees self.old.nodes)))) (depth + max (height (tree_at forms.now f)) (height (tree_at forms.now g)))) }
     {
         let f = self.number(forms, f, depth)?;
         let g = self.number(forms, g, depth)?;
         Ok((f, g))
     }
 
-    /// Gives the form at a place the next number.
+    /// Gives the form at a place the number of its formula, which is the next one where it is new.
     fn put(&mut self, at: usize, node: Node) -> Result<u32, FormError>
         requires place { at < length self.old.numbers }
         requires node { IsNodeAt (length self.old.nodes) node }
-        ensures last { IfOk result (λ n. n + 1 ≡ length self.new.nodes) }
-        ensures nodes { OnOk result (self.new.nodes ≡ self.old.nodes ++ node ∷ []) }
-        ensures goes { OnOk result (Goes self.old self.new) }
+        ensures exact { IfOk result (λ n. Puts self.old self.new at node n) }
+        ensures over { IfErr result (λ e. e ≡ TooManyFormulas → 512 < length (with_tree (node_trees self.old.nodes) (node_tree (node_trees self.old.nodes) node))) }
     {
-        if self.nodes.len() == MOST {
+        if self.nodes.len() == MOST && !self.nodes.contains(&node) {
             return Err(FormError::TooManyFormulas);
         }
-        let number = self.nodes.len() as u32;
-        self.nodes.push(node)?;
+        let (number, _) = self.nodes.insert_full(node)?;
+        let number = number as u32;
         self.numbers[at] = Some(number);
         Ok(number)
     }

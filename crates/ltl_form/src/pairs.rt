@@ -3,7 +3,7 @@
 ghost use Rattle.std.specs.Prelude.{◌≡◌, true, IfOk, map};
 ghost use Rattle.ltl_form.specs.Form.{MadePair, MadeTwo};
 ghost use Rattle.ltl_form.specs.Formula.{signals_below, all_below};
-ghost use Rattle.ltl_form.specs.Tree.{sides, all_sides, any_sides};
+ghost use Rattle.ltl_form.specs.Tree.{sides, true_sides, false_sides, until_sides, release_sides, all_sides, any_sides};
 
 use crate::forms::{Forms, Pair, opposite};
 use crate::formulas::Ltl;
@@ -26,16 +26,8 @@ pub fn pair_of(forms: &mut Forms, f: &Ltl) -> Result<Pair, AllocError>
             let f = pair_of(forms, f.get())?;
             forms.later(f)
         }
-        Ltl::Finally(f) => {
-            let before = forms.verum()?;
-            let f = pair_of(forms, f.get())?;
-            forms.ending(before, f)
-        }
-        Ltl::Globally(f) => {
-            let released = forms.falsum()?;
-            let f = pair_of(forms, f.get())?;
-            forms.lasting(released, f)
-        }
+        Ltl::Finally(f) => finally_of(forms, f.get()),
+        Ltl::Globally(f) => globally_of(forms, f.get()),
         Ltl::Implies(f, g) => {
             let (f, g) = two_of(forms, f.get(), g.get())?;
             forms.either(opposite(f), g)
@@ -60,6 +52,29 @@ pub fn pair_of(forms: &mut Forms, f: &Ltl) -> Result<Pair, AllocError>
     }
 }
 
+/// `F f` is `true U f`.
+#[cycle(pairs)]
+fn finally_of(forms: &mut Forms, f: &Ltl) -> Result<Pair, AllocError>
+    requires { signals_below 64 f.now ≡ true }
+    ensures { IfOk result (λ p. MadePair forms.old forms.new p (until_sides true_sides (sides f.now))) }
+{
+    let before = forms.verum()?;
+    let f = pair_of(forms, f)?;
+    forms.ending(before, f)
+}
+
+/// `G f` is `false R f`.
+#[cycle(pairs)]
+fn globally_of(forms: &mut Forms, f: &Ltl) -> Result<Pair, AllocError>
+    requires { signals_below 64 f.now ≡ true }
+    ensures { IfOk result (λ p. MadePair forms.old forms.new p (release_sides false_sides (sides f.now))) }
+{
+    let released = forms.falsum()?;
+    let f = pair_of(forms, f)?;
+    forms.lasting(released, f)
+}
+
+/// A left and a right operand.
 #[cycle(pairs)]
 fn two_of(forms: &mut Forms, f: &Ltl, g: &Ltl) -> Result<(Pair, Pair), AllocError>
     requires left { signals_below 64 f.now ≡ true }

@@ -1,2 +1,4 @@
+pub mod Live
 pub mod Numbers
 pub mod Search
+pub mod Trimmed

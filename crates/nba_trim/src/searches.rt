@@ -1,7 +1,7 @@
 //! Searches through the states of an automaton.
 
-ghost use Rattle.std.specs.Prelude.{◌≡◌, ◌<◌, ◌++◌, ◌∷◌, [], length, IfOk, OnOk, IfSome};
-ghost use Rattle.nba_trim.specs.Search.{AreStates};
+ghost use Rattle.std.specs.Prelude.{if◌then◌else◌, ℕ, ◌≡◌, ◌<◌, ◌≤◌, ◌++◌, ◌∷◌, [], false, true, length, IfOk, OnOk, slice_index_or};
+ghost use Rattle.nba_trim.specs.Search.{AreStates, IsSearch, Finds, at, trues};
 
 use std::alloc::{AllocError, Global};
 use std::marker::Model;
@@ -14,20 +14,20 @@ pub struct Search {
 }
 
 impl Model for Search {
-    ghost use Rattle.std.specs.Prelude.{length};
-    ghost use Rattle.nba_trim.specs.Search.{SearchData, AreStates};
+    ghost use Rattle.nba_trim.specs.Search.{SearchData, IsSearch};
 
     ghost Value = { SearchData };
 
     ghost view = { λ s. record { found = s.found.items; queue = s.queue.items } };
 
-    ghost invariant = { λ s. AreStates (length s.found.items) s.queue.items };
+    ghost invariant = { λ s. IsSearch s.found.items s.queue.items };
 }
 
 impl Search {
     /// No state was found yet.
     pub fn new(alloc: Global, count: usize) -> Result<Search, AllocError>
-        ensures { IfOk result (λ search. length search.found ≡ count) }
+        ensures count { IfOk result (λ search. length search.found ≡ count) }
+        ensures none { IfOk result (λ search. (q : ℕ) → at search.found q ≡ false) }
     {
         let found = vec![in alloc; false; count]?;
         Ok(Search {
@@ -36,23 +36,35 @@ impl Search {
         })
     }
 
-    /// Finds a state.
-    pub fn add(&mut self, q: u32) -> Result<(), AllocError>
+    /// Finds a state, where it is wanted.
+    pub fn add_if(&mut self, q: u32, is_wanted: bool) -> Result<(), AllocError>
         requires { q < length self.old.found }
-        ensures { OnOk result (length self.new.found ≡ length self.old.found) }
+        ensures { OnOk result (Finds (λ p. (p ≡ q) × (is_wanted ≡ true)) self.old self.new) }
     {
-        if !self.found[q as usize] {
+        let _ = &self.found;
+        if is_wanted && !self.found[q as usize] {
             self.queue.push(q)?;
             self.found[q as usize] = true;
         }
         Ok(())
     }
 
-    /// The state that was found at a place.
-    pub fn at(&self, at: usize) -> Option<u32>
-        ensures { IfSome result (λ q. q < length self.now.found) }
+    /// How many states were found.
+    pub fn len(&self) -> usize
+        ensures value { result ≡ length self.now.queue }
+        ensures fewer { result ≤ length self.now.found }
+        ensures search { IsSearch self.now.found self.now.queue }
     {
-        self.queue.get(at).copied()
+        self.queue.len()
+    }
+
+    /// The state that was found at a place.
+    pub fn at(&self, place: usize) -> u32
+        requires { place < length self.now.queue }
+        ensures value { result ≡ slice_index_or self.now.queue place 0 }
+        ensures state { result < length self.now.found }
+    {
+        self.queue[place]
     }
 
     /// By state whether it was found.
@@ -99,4 +111,22 @@ impl Sources {
     {
         &self.states
     }
+}
+
+/// How many are true.
+pub fn count_true(told: &[bool]) -> usize
+    ensures { result ≡ trues told.now }
+{
+    let mut count = 0;
+    for q in 0..told.len() {
+        count += one_if(told[q]);
+    }
+    count
+}
+
+fn one_if(is_true: bool) -> usize
+    ensures value { result ≡ (if is_true then 1 else 0) }
+    ensures low { result ≤ 1 }
+{
+    if is_true { 1 } else { 0 }
 }

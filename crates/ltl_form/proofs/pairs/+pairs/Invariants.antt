@@ -15,6 +15,12 @@ invariant-any_of-loop-f l = MadePair l.fn.forms l.forms l.whole (any_sides (map 
 abbrev pub decreases-pair_of : goal.decreases-pair_of
 decreases-pair_of l = 2 * the_size l.f.now
 
+abbrev pub decreases-finally_of : goal.decreases-finally_of
+decreases-finally_of l = 2 * the_size l.f.now + 1
+
+abbrev pub decreases-globally_of : goal.decreases-globally_of
+decreases-globally_of l = 2 * the_size l.f.now + 1
+
 abbrev pub decreases-two_of : goal.decreases-two_of
 decreases-two_of l = 2 * max (the_size l.f.now) (the_size l.g.now) + 1
 
