@@ -1,3 +1,4 @@
 mod Answering
 mod Appends
 mod Names
+mod Trying

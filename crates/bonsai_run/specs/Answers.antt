@@ -1,10 +1,15 @@
 -- The texts of answers, by their statuses.
-use Rattle.std.specs.Prelude.{◌≡◌, ◌≤◌, ℕ, ℤ, Bool, List, [], ◌∷◌, ◌++◌, codes, decimal, length}
+use Rattle.std.specs.Prelude.{◌≡◌, ◌<◌, ℕ, ℤ, Bool, List, [], ◌∷◌, ◌++◌, codes, decimal, length}
 use Rattle.std.specs.Fmt.{signed_decimal}
 use Rattle.word_core.specs.declared.names.Player.{Player}
 use Rattle.word_core.specs.declared.names.Player.TheVariants.{System, Environment}
 use Rattle.word_core.specs.declared.names.Names.{Names}
 use Rattle.word_core.specs.Machine.{MachineData}
+use Rattle.word_core.specs.Run.{Keeps}
+use Rattle.dual_game.specs.declared.bounds.Bounds.{Bounds}
+use Rattle.dual_game.specs.declared.games.Pair.{Pair}
+use Rattle.dual_game.specs.Bounds.{IsTried}
+use Rattle.dual_game.specs.Winning.{IsMachineFor, NobodyWins, automaton_of}
 use Rattle.machine_text.specs.Machines.{machine_text, player_word}
 use Rattle.spec_gen.specs.Arbiter.{arbiter_text}
 use Rattle.bonsai_words.specs.Ordered.{Asked}
@@ -58,10 +63,17 @@ won_comment bound m = codes "// " ++ verdict_word m.player ++ codes " bound " ++
 abbrev pub unknown_comment : ℕ → List ℕ
 unknown_comment bound = codes "// UNKNOWN bound " ++ decimal bound ++ codes "\n"
 
--- a verdict lies between the first and the last of the bounds to try, and where nobody wins the last was tried
-abbrev pub IsVerdict : ℕ → ℕ → Verdict → Type 0
-IsVerdict first last (Won bound machine) = (first ≤ bound) × (bound ≤ last)
-IsVerdict first last (Unknown bound) = bound ≡ last
+-- the verdict on automata: at the least tried bound at which a player wins, a machine of that player which keeps the bound
+-- on the player's automaton; where nobody wins at any tried bound, the last one
+abbrev pub IsVerdict : Pair → Names → Bounds → Verdict → Type 0
+IsVerdict pair names bounds (Won bound machine) =
+    IsTried bounds bound × ((k : ℕ) → IsTried bounds k → k < bound → NobodyWins pair names k)
+    × IsMachineFor names machine.player machine × Keeps (automaton_of pair machine.player) machine bound
+IsVerdict pair names bounds (Unknown bound) = (bound ≡ bounds.last) × ((k : ℕ) → IsTried bounds k → NobodyWins pair names k)
+
+-- the bounds of an order
+abbrev pub bounds_of : ℕ × ℕ × ℕ → Bounds
+bounds_of b = record { first = b.0; step = b.1; last = b.2 }
 
 -- the status and the text of a verdict
 abbrev pub verdict_of : Verdict → ℕ
@@ -78,7 +90,7 @@ verdict_comment (Unknown bound) = unknown_comment bound
 
 -- what an order may be answered: a status and a text
 pub data IsAnswer : Asked → ℕ → List ℕ → Type 0 where
-  decided : (name : List ℕ) (bounds : ℕ × ℕ × ℕ) (workers : ℕ) (as_written : Bool) (names : Names) (v : Verdict) → IsVerdict bounds.0 bounds.2 v
+  decided : (name : List ℕ) (bounds : ℕ × ℕ × ℕ) (workers : ℕ) (as_written : Bool) (pair : Pair) (names : Names) (v : Verdict) → IsVerdict pair names (bounds_of bounds) v
       → IsAnswer (synth name bounds workers as_written) (verdict_of v) (verdict_text names v)
   held : (name : List ℕ) (player : Player) (bound : ℕ) (as_written : Bool) (lanes : ℕ) (vectors : List (List ℤ))
       → IsAnswer (downset name player bound as_written) 0 (downset_text player bound lanes vectors)
@@ -86,4 +98,5 @@ pub data IsAnswer : Asked → ℕ → List ℕ → Type 0 where
   over : (name machine : List ℕ) (bound : ℕ) (as_written : Bool) → IsAnswer (check name machine bound as_written) 40 (codes "OVER\n")
   holds : (name lasso : List ℕ) (as_written : Bool) → IsAnswer (eval name lasso as_written) 0 (codes "HOLDS\n")
   fails : (name lasso : List ℕ) (as_written : Bool) → IsAnswer (eval name lasso as_written) 40 (codes "FAILS\n")
-  generated : (clients workers : ℕ) (v : Verdict) → IsVerdict 0 8 v → IsAnswer (gen clients workers) 0 (arbiter_text clients ++ verdict_comment v)
+  generated : (clients workers : ℕ) (pair : Pair) (names : Names) (v : Verdict) → IsVerdict pair names (bounds_of (0, 1, 8)) v
+      → IsAnswer (gen clients workers) 0 (arbiter_text clients ++ verdict_comment v)

@@ -2,4 +2,5 @@ pub mod Answers
 pub mod Errors
 pub mod Faults
 pub mod Runs
+pub mod Winners
 pub mod Writing

@@ -2,8 +2,10 @@
 
 ghost use Rattle.std.specs.Prelude.{◌≡◌, ◌++◌, ◌≤◌, ℕ, IfOk, IfErr, OnOk};
 ghost use Rattle.bonsai_words.specs.Ordered.Asked.{gen};
+ghost use Rattle.dual_game.specs.declared.games.Pair.{Pair};
+ghost use Rattle.word_core.specs.declared.names.Names.{Names};
 ghost use Rattle.spec_gen.specs.Arbiter.{arbiter_text};
-ghost use Rattle.bonsai_run.specs.Answers.{IsAnswer, IsVerdict, won_comment, unknown_comment, verdict_comment};
+ghost use Rattle.bonsai_run.specs.Answers.{IsAnswer, IsVerdict, bounds_of, won_comment, unknown_comment, verdict_comment};
 ghost use Rattle.bonsai_run.specs.Faults.{IsInner};
 
 use crate::answers::{Answer, push_number, verdict_word};
@@ -38,7 +40,7 @@ pub fn generated_answer(alloc: Global, clients: u32) -> Result<Answer, Fault>
 /// The answer of an arbiter's text with a comment on the verdict.
 fn commented(text: Vec<u8>, clients: u32, verdict: &Verdict) -> Result<Answer, AllocError>
     requires text { text.items ≡ arbiter_text clients }
-    requires verdict { IsVerdict 0 8 verdict.now }
+    requires verdict { (pair : Pair) × (names : Names) × IsVerdict pair names (bounds_of (0, 1, 8)) verdict.now }
     ensures { IfOk result (λ a. (workers : ℕ) → IsAnswer (gen clients workers) a.status a.text.items) }
 {
     let _ = clients;

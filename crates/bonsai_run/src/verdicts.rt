@@ -1,18 +1,26 @@
 //! The verdict on a specification: bound after bound, both players' games.
 
-ghost use Rattle.std.specs.Prelude.{◌≡◌, ◌≤◌, pos, true, IfOk, IfErr, IfSome};
+ghost use Rattle.std.specs.Prelude.{◌≡◌, ◌≤◌, true, false, IfOk, IfErr};
+ghost use Rattle.dual_game.specs.declared.games.Pair.{Pair};
 ghost use Rattle.dual_game.specs.Bounds.{AreBounds};
+ghost use Rattle.dual_game.specs.Winning.{Decides, with_bound};
+ghost use Rattle.game_form.specs.Covering.{CoversLetters};
+ghost use Rattle.game_core.specs.Solved.{IsSettled};
+ghost use Rattle.game_form.specs.Letters.{HasLetters};
 ghost use Rattle.ltl_form.specs.Formula.{signals_below};
 ghost use Rattle.tlsf_basic.specs.Specification.{signal_count};
+ghost use Rattle.word_core.specs.declared.names.Names.{Names};
 ghost use Rattle.word_core.specs.declared.names.Player.TheVariants.{System, Environment};
 ghost use Rattle.bonsai_run.specs.Answers.{IsVerdict};
 ghost use Rattle.bonsai_run.specs.Faults.{IsInner};
+ghost use Rattle.bonsai_run.specs.Winners.{IsWinner, IsFound, IsFoundOfTwo};
 
 use crate::faults::Fault;
-use dual_game::{Bounds, automata, game};
+use antichain_list::ListDownset;
+use counter_vec::Counters;
+use dual_game::{Bounds, automata, quotient_game};
 use game_core::{Solved, solve};
 use game_form::Game;
-use nba_quotient::quotient;
 use std::alloc::{AllocError, Global};
 use strategy_play::extract;
 use tlsf_basic::Spec;
@@ -26,24 +34,22 @@ pub enum Verdict {
     Unknown { bound: u32 },
 }
 
-/// The verdict on a specification of at most 40 signals. The games are those of the automata's quotients, which
-/// have the same machines.
+/// The verdict on a specification of at most 40 signals. The games are those of the automata's quotients, in which the
+/// same bounds are kept.
 pub fn decide(alloc: Global, spec: &Spec, bounds: Bounds) -> Result<Verdict, Fault>
     requires bounds { AreBounds bounds }
     requires last { bounds.last ≤ 10000 }
     requires few { signal_count spec.now.names ≤ 40 }
     requires numbered { signals_below (signal_count spec.now.names) spec.now.formula ≡ true }
-    ensures verdict { IfOk result (IsVerdict bounds.first bounds.last) }
+    ensures verdict { IfOk result (λ v. (pair : Pair) × IsVerdict pair spec.now.names bounds v) }
     ensures fault { IfErr result IsInner }
 {
     let pair = automata(alloc, spec)?;
     let names = &spec.names;
-    let system = quotient(alloc, &pair.system)?;
-    let system = game(alloc, &system, names, Player::System, bounds.first)?;
-    let environment = quotient(alloc, &pair.environment)?;
-    let environment = game(
+    let system = quotient_game(alloc, &pair.system, names, Player::System, bounds.first)?;
+    let environment = quotient_game(
         alloc,
-        &environment,
+        &pair.environment,
         names,
         Player::Environment,
         bounds.first,
@@ -60,7 +66,11 @@ fn try_bounds(
 ) -> Result<Verdict, AllocError>
     requires bounds { AreBounds bounds }
     requires last { bounds.last ≤ 10000 }
-    ensures { IfOk result (IsVerdict bounds.first bounds.last) }
+    requires system_letters { HasLetters system }
+    requires system_covers { CoversLetters system }
+    requires environment_letters { HasLetters environment }
+    requires environment_covers { CoversLetters environment }
+    ensures { (pair : Pair) (names : Names) → Decides pair.system names System system → Decides pair.environment names Environment environment → IfOk result (IsVerdict pair names bounds) }
 {
     let mut bound = bounds.first;
     let mut games = (system, environment);
@@ -79,15 +89,21 @@ fn try_bounds(
 /// Both games with a bound, at most 10,000.
 fn at_bound(system: Game, environment: Game, bound: u32) -> (Game, Game)
     requires { bound ≤ 10000 }
-    ensures system { result.0 ≡ record system { k = pos bound } }
-    ensures environment { result.1 ≡ record environment { k = pos bound } }
+    ensures system { result.0 ≡ with_bound bound system }
+    ensures environment { result.1 ≡ with_bound bound environment }
 {
     let k = bound as i16;
     (system.with_bound(k), environment.with_bound(k))
 }
 
 /// The machine of the player who wins its game, if one does.
-fn winner(alloc: Global, system: &Game, environment: &Game) -> Result<Option<Machine>, AllocError> {
+fn winner(alloc: Global, system: &Game, environment: &Game) -> Result<Option<Machine>, AllocError>
+    requires system_letters { HasLetters system.now }
+    requires system_covers { CoversLetters system.now }
+    requires environment_letters { HasLetters environment.now }
+    requires environment_covers { CoversLetters environment.now }
+    ensures { IfOk result (IsFoundOfTwo system.now environment.now) }
+{
     match machine_of(alloc, system)? {
         Some(machine) => Ok(Some(machine)),
         None => machine_of(alloc, environment),
@@ -96,10 +112,23 @@ fn winner(alloc: Global, system: &Game, environment: &Game) -> Result<Option<Mac
 
 /// A machine that wins a game, if there is one.
 fn machine_of(alloc: Global, g: &Game) -> Result<Option<Machine>, AllocError>
-    ensures { IfOk result (λ o. IfSome o (λ m. m.player ≡ g.now.player)) }
+    requires letters { HasLetters g.now }
+    requires covers { CoversLetters g.now }
+    ensures { IfOk result (IsFound g.now) }
 {
     match solve(alloc, g, false)? {
-        Solved::Held(list) => Ok(Some(extract(alloc, g, &list)?)),
+        Solved::Held(list) => Ok(Some(strategy(alloc, g, &list)?)),
         Solved::Lost => Ok(None),
     }
+}
+
+/// The machine that stays in a closed list with a vector at or above the initial one.
+fn strategy(alloc: Global, g: &Game, list: &ListDownset<Counters>) -> Result<Machine, AllocError>
+    requires letters { HasLetters g.now }
+    requires list { IsSettled g.now false list.now }
+    ensures { IfOk result (IsWinner g.now) }
+{
+    let machine = extract(alloc, g, list)?;
+    let _ = machine.states();
+    Ok(machine)
 }

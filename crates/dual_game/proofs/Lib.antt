@@ -1,3 +1,5 @@
 mod Counted
+mod Decided
 mod Reached
+pub mod Tried
 mod Weaker

@@ -2,3 +2,4 @@ pub mod Bounds
 pub mod Counting
 pub mod Errors
 pub mod Games
+pub mod Winning

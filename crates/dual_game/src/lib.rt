@@ -5,8 +5,10 @@ mod bounds;
 mod errors;
 mod games;
 mod laws;
+mod quotient_games;
 
 pub use bounds::Bounds;
 pub use errors::GameError;
 pub use games::{Pair, automata, automaton, game, kind_of, normal_of};
 pub use laws::{counting_is_exact, counting_is_sound};
+pub use quotient_games::quotient_game;

@@ -1,1 +1,5 @@
-mod Weaker
+mod Covered
+mod Numbers
+mod OneClass
+mod Simulated
+mod Splits

@@ -1,1 +1,4 @@
 pub mod Classes
+pub mod Kinds
+pub mod Simulation
+pub mod Ways

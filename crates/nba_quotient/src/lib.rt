@@ -3,5 +3,6 @@
 
 mod classes;
 mod quotients;
+mod ways;
 
 pub use quotients::quotient;

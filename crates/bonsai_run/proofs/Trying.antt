@@ -1,0 +1,84 @@
+-- What is known while bound after bound is tried.
+use Rattle.std.proofs.Common.{◌≡◌, ℕ, ◌<◌, ◌≤◌, ◌⊎◌, Bool, true, false, nat_lt, Option, Some, None, inl, inr, refl, sym, ◌∙◌, ap, subst, arith}
+use borrow.Author.Tests.{ltb-true, ltb-false}
+use Rattle.word_core.specs.declared.names.Names.{Names}
+use Rattle.word_core.specs.declared.names.Player.{Player}
+use Rattle.word_core.specs.declared.names.Player.TheVariants.{System, Environment}
+use Rattle.word_core.specs.Machine.{MachineData}
+use Rattle.word_core.specs.Run.{Keeps}
+use Rattle.game_form.specs.Game.{GameData}
+use Rattle.game_form.specs.Held.{IsHeld}
+use Rattle.game_form.specs.Vector.{initial}
+use Rattle.dual_game.specs.declared.bounds.Bounds.{Bounds}
+use Rattle.dual_game.specs.declared.games.Pair.{Pair}
+use Rattle.dual_game.specs.Bounds.{AreBounds, IsTried, tried_after}
+use Rattle.dual_game.specs.Winning.{IsMachineFor, Wins, NobodyWins, automaton_of, with_bound, Decides}
+use Rattle.dual_game.proofs.Tried.{tried_first, tried_next, tried_low, none_between, none_before, after_last}
+use Rattle.bonsai_run.specs.declared.verdicts.Verdict.TheVariants.{Won, Unknown}
+use Rattle.bonsai_run.specs.Answers.{IsVerdict}
+use Rattle.bonsai_run.specs.Winners.{IsWinner, IsLost, IsFoundOfTwo}
+
+-- both games decide who wins
+pub record Both (pair : Pair) (names : Names) (system environment : GameData) : Type 0 where
+  pub system : Decides pair.system names System system
+  pub environment : Decides pair.environment names Environment environment
+
+-- the bound is one of those tried, and nobody wins at an earlier one
+pub record Trying (b : Bounds) (system environment : GameData) (bound : ℕ) : Type 0 where
+  pub tried : IsTried b bound
+  pub before : (pair : Pair) (names : Names) → Decides pair.system names System system → Decides pair.environment names Environment environment
+      → (k : ℕ) → IsTried b k → k < bound → NobodyWins pair names k
+
+pub trying_first : (b : Bounds) (system environment : GameData) → AreBounds b → Trying b system environment b.first
+trying_first b system environment are = record {
+  tried = tried_first b are;
+  before = λ pair names s e k tried less. absurd (none (none_before b k are tried) less);
+}
+  where
+    none : {k : ℕ} → b.first ≤ k → k < b.first → ⊥
+    none le less = omega arith
+
+module _ (b : Bounds) (system environment : GameData) (bound : ℕ) (trying : Trying b system environment bound) (small : b.last ≤ 10000)
+    (g h : GameData) (g_is : g ≡ with_bound bound system) (h_is : h ≡ with_bound bound environment) where
+  low : bound ≤ 10000
+  low = omega (arith, tried_low b bound trying.tried, small)
+
+  won : (pair : Pair) (names : Names) (who : Player) (m : MachineData) → IsMachineFor names who m × Keeps (automaton_of pair who) m bound
+      → IsMachineFor names m.player m × Keeps (automaton_of pair m.player) m bound
+  won pair names who m w = subst (λ p. IsMachineFor names p m × Keeps (automaton_of pair p) m bound) (sym w.0.player) w
+
+  pub wins : (m : MachineData) → IsFoundOfTwo g h (Some m) → (pair : Pair) (names : Names) → Decides pair.system names System system → Decides pair.environment names Environment environment
+      → IsVerdict pair names b (Won bound m)
+  wins m (inl w) pair names s e =
+      let k = subst (λ g. IsWinner g m) g_is w in
+      (trying.tried, trying.before pair names s e, won pair names System m (s.sound bound m low k.0 k.1))
+  wins m (inr w) pair names s e =
+      let k = subst (λ g. IsWinner g m) h_is w in
+      (trying.tried, trying.before pair names s e, won pair names Environment m (e.sound bound m low k.0 k.1))
+
+  nobody : IsFoundOfTwo g h None → (pair : Pair) (names : Names) → Decides pair.system names System system → Decides pair.environment names Environment environment → NobodyWins pair names bound
+  nobody lost pair names s e System wins = subst IsLost g_is lost.0 (s.exact bound low wins)
+  nobody lost pair names s e Environment wins = subst IsLost h_is lost.1 (e.exact bound low wins)
+
+  -- up to the bound nobody wins
+  so_far : IsFoundOfTwo g h None → (pair : Pair) (names : Names) → Decides pair.system names System system → Decides pair.environment names Environment environment
+      → (k : ℕ) → IsTried b k → k ≤ bound → NobodyWins pair names k
+  so_far lost pair names s e k tried le = by (nat_lt k bound) refl
+    where
+      by : (c : Bool) → nat_lt k bound ≡ c → NobodyWins pair names k
+      by true l = trying.before pair names s e k tried (ltb-true k bound l)
+      by false l =
+          let same : bound ≡ k = omega (arith, ltb-false k bound l, le) in
+          subst (NobodyWins pair names) same (nobody lost pair names s e)
+
+  pub goes_on : AreBounds b → (n : ℕ) → IsFoundOfTwo g h None → tried_after b bound ≡ Some n → Trying b system environment n
+  goes_on are n lost next = record {
+    tried = tried_next b bound n trying.tried next;
+    before = λ pair names s e k tried less. so_far lost pair names s e k tried (none_between b bound n k are trying.tried next tried less);
+  }
+
+  pub ends : IsFoundOfTwo g h None → tried_after b bound ≡ None → (pair : Pair) (names : Names) → Decides pair.system names System system → Decides pair.environment names Environment environment
+      → IsVerdict pair names b (Unknown bound)
+  ends lost last pair names s e =
+      let is : bound ≡ b.last = after_last b bound last in
+      (is, λ k tried. so_far lost pair names s e k tried (subst (λ n. k ≤ n) (sym is) (tried_low b k tried)))

@@ -1,0 +1,33 @@
+//! Games of quotients.
+
+ghost use Rattle.std.specs.Prelude.{◌≡◌, ◌≤◌, IfOk};
+ghost use Rattle.tlsf_basic.specs.Specification.{signal_count};
+ghost use Rattle.dual_game.specs.Winning.{Decides};
+
+use crate::games::game;
+use game_form::Game;
+use nba_quotient::quotient;
+use std::alloc::{AllocError, Global};
+use word_core::{Automaton, Names, Player};
+
+/// The game of an automaton's quotient over these names, at most 40, for a player, with the bound `k`, at most 10,000.
+///
+/// With each bound it decides whether some machine of the player, of any size, keeps that bound on the automaton.
+pub fn quotient_game(
+    alloc: Global,
+    a: &Automaton,
+    names: &Names,
+    player: Player,
+    k: u32,
+) -> Result<Game, AllocError>
+    requires bound { k ≤ 10000 }
+    requires few { signal_count names.now ≤ 40 }
+    requires signals { a.now.signals ≡ signal_count names.now }
+    ensures { IfOk result (Decides a.now names.now player) }
+{
+    let quotient = quotient(alloc, a)?;
+    let small = game(alloc, &quotient, names, player, k)?;
+    let _ = quotient.states();
+    small.known();
+    Ok(small)
+}
