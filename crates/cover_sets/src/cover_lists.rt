@@ -68,18 +68,17 @@ pub fn covers(alloc: Global, f: &Normal, set: &[u32]) -> Result<Vec<Cover>, Cove
     }
     let mut lists = Vec::new(alloc);
     for cover in &table.of_set(alloc, &members)? {
-        lists.push(lists_of(alloc, cover, f.nodes().len())?)?;
+        lists.push(lists_of(alloc, cover)?)?;
     }
     Ok(lists)
 }
 
-/// The three sets as lists of the numbers below `bound`.
-fn lists_of(alloc: Global, cover: &BitCover, bound: usize) -> Result<Cover, AllocError>
-    requires { bound ≤ 512 }
+/// The three sets as ascending lists.
+fn lists_of(alloc: Global, cover: &BitCover) -> Result<Cover, AllocError>
 {
     Ok(Cover {
-        literals: cover.literals.to_list(alloc, bound)?,
-        next: cover.next.to_list(alloc, bound)?,
-        postponed: cover.postponed.to_list(alloc, bound)?,
+        literals: cover.literals.to_list(alloc)?,
+        next: cover.next.to_list(alloc)?,
+        postponed: cover.postponed.to_list(alloc)?,
     })
 }
