@@ -45,7 +45,7 @@ first_found a s (suc m) e es h = go (λ k. first_found a (s + 1) m e es k) (has 
     go rec true t k = let i : s ≡ e = cc in (omega arith, subst (λ n. has a n ≡ true) i t)
     go rec false t k = let i = rec k in (omega (arith, i.0), i.1)
 
-no_bit : (a s : ℕ) → has a s ≡ false → bit_at a s ≡ 0
+pub no_bit : (a s : ℕ) → has a s ≡ false → bit_at a s ≡ 0
 no_bit a s h = let l = bit_at-lt a s in grind arith
 
 pub one_bit : (a s : ℕ) → has a s ≡ true → bit_at a s ≡ 1
