@@ -41,9 +41,13 @@ contrary _ _ = false
 abbrev pub negations : List Node → Node → List ℕ
 negations nodes node = filter (λ m. contrary node (node_at nodes m)) (range_with_len 0 (length nodes))
 
+-- a number with each of these
+abbrev pub pairs_with : ℕ → List ℕ → List (ℕ × ℕ)
+pairs_with n numbers = map (λ m. (n, m)) numbers
+
 -- the pairs of a literal and its negation, by number
 abbrev pub opposites : List Node → List (ℕ × ℕ)
-opposites nodes = flat_map (λ n. map (λ m. (n, m)) (negations nodes (node_at nodes n))) (range_with_len 0 (length nodes))
+opposites nodes = flat_map (λ n. pairs_with n (negations nodes (node_at nodes n))) (range_with_len 0 (length nodes))
 
 -- no pair is in the set
 abbrev pub consistent : List (ℕ × ℕ) → ℕ → Bool

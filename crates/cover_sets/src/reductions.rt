@@ -58,6 +58,23 @@ pub fn product(
     Ok(ordered(kept.covers)?)
 }
 
+/// The reduced list of these covers.
+pub fn reduced_list(
+    alloc: Global,
+    opposites: &[(u32, u32)],
+    raw: &[BitCover],
+) -> Result<Vec<BitCover>, CoverError>
+    requires pairs { ArePairs opposites.now }
+    requires few { length raw.now ≤ 2048 }
+    requires raw { AreConsistent opposites.now raw.now }
+    ensures value { IfOk result (λ list. narrow (reduced opposites.now (covers_of raw.now)) ≡ Some (covers_of list.items)) }
+    ensures wide { IfErr result (λ e. e ≡ TooWide → narrow (reduced opposites.now (covers_of raw.now)) ≡ None) }
+    ensures narrow { IfOk result (λ list. length list.items ≤ 1024) }
+    ensures consistent { IfOk result (λ list. AreConsistent opposites.now list.items) }
+{
+    product(alloc, opposites, raw, &[BitCover::EMPTY])
+}
+
 /// The consistent unions, the smaller ones first.
 fn unions_of(
     alloc: Global,
