@@ -90,8 +90,8 @@ against_more pairs i positive negative x a b c l is h k m y =
     ∙ ap (λ t. t && not (has x negative && has y positive)) (k y ∙ ap (λ t. t && not (has x positive && has y negative)) (h y))
     ∙ two_turns (clashes (take i pairs) x y) (has x positive && has y negative) (has x negative && has y positive)
     ∙ ap not (ap (λ p. clashes (take i pairs) x y || ((has x p.0 && has y p.1) || (has x p.1 && has y p.0))) is
-              ∙ sym (any_push (λ p. (has x p.0 && has y p.1) || (has x p.1 && has y p.0)) (take i pairs) (get_or pairs i (0, 0)))
-              ∙ ap (λ ps. clashes ps x y) (sym (take_more pairs i (0, 0) l)))
+    ∙ sym (any_push (λ p. (has x p.0 && has y p.1) || (has x p.1 && has y p.0)) (take i pairs) (get_or pairs i (0, 0)))
+    ∙ ap (λ ps. clashes ps x y) (sym (take_more pairs i (0, 0) l)))
 
 has_either : (x y n : ℕ) → has (bit_or x y) n ≡ (has x n || has y n)
 has_either x y n = ap (λ b. nat_eq b 1) (bit_at_or x y n) ∙ go (bit_at x n) (bit_at y n) (bit_at-lt x n) (bit_at-lt y n)
@@ -126,9 +126,9 @@ any_crossed (p ∷ ps) x y h k =
     let v = or_none _ _ k in
     ap (λ t. (has (bit_or x y) p.0 && has (bit_or x y) p.1) || t) (any_crossed ps x y u.1 v.1)
     ∙ ap (λ t. t || clashes ps x y)
-      (ap (λ t. t && has (bit_or x y) p.1) (has_either x y p.0)
-       ∙ ap (λ t. (has x p.0 || has y p.0) && t) (has_either x y p.1)
-       ∙ crossed (has x p.0) (has y p.0) (has x p.1) (has y p.1) u.0 v.0)
+    (ap (λ t. t && has (bit_or x y) p.1) (has_either x y p.0)
+    ∙ ap (λ t. (has x p.0 || has y p.0) && t) (has_either x y p.1)
+    ∙ crossed (has x p.0) (has y p.0) (has x p.1) (has y p.1) u.0 v.0)
 
 -- a union of two consistent sets
 pub consistent_union : (pairs : List (ℕ × ℕ)) (x y : ℕ) → consistent pairs x ≡ true → consistent pairs y ≡ true → consistent pairs (bit_or x y) ≡ not (clashes pairs x y)

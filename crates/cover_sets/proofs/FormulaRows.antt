@@ -42,6 +42,7 @@ not_both_in n a b h = go (eqb n a) refl
     and_false : (t : Bool) → (t && false) ≡ false
     and_false true = refl
     and_false false = refl
+
     go : (t : Bool) → eqb n a ≡ t → (has (2 ^ n) a && has (2 ^ n) b) ≡ false
     go true e = ap (λ t. has (2 ^ n) a && t) (only_one n b (λ i. h (sym (eqb-true n a e) ∙ i))) ∙ and_false (has (2 ^ n) a)
     go false e = ap (λ t. t && has (2 ^ n) b) (only_one n a (eqb-false n a e))
@@ -189,10 +190,12 @@ negations_more n i node nodes xs new before b h e k =
     last : (c : Bool) → contrary node (node_at nodes i) ≡ c → pairs_with n (filter (λ m. contrary node (node_at nodes m)) (i ∷ [])) ≡ cond c ((n, i) ∷ []) []
     last true p = ap (λ t. pairs_with n (cond t (i ∷ []) [])) p
     last false p = ap (λ t. pairs_with n (cond t (i ∷ []) [])) p
+
     zero_plus : 0 + i ≡ i
     zero_plus = omega arith
+
     whole : pairs_with n (filter (λ m. contrary node (node_at nodes m)) (range_with_len 0 (i + 1)))
-            ≡ pairs_with n (filter (λ m. contrary node (node_at nodes m)) (range_with_len 0 i)) ++ cond b ((n, i) ∷ []) []
+        ≡ pairs_with n (filter (λ m. contrary node (node_at nodes m)) (range_with_len 0 i)) ++ cond b ((n, i) ∷ []) []
     whole =
         ap (λ ns. pairs_with n (filter (λ m. contrary node (node_at nodes m)) ns)) (range_split 0 i 1)
         ∙ ap (pairs_with n) (filter-append (λ m. contrary node (node_at nodes m)) (range_with_len 0 i) ((0 + i) ∷ []))
@@ -205,12 +208,13 @@ pub opposites_more : (nodes : List Node) (n : ℕ) (xs new : List (ℕ × ℕ)) 
 opposites_more nodes n xs new e k =
     k ∙ ap (λ ys. ys ++ pairs_with n (negations nodes (node_at nodes n))) e
     ∙ sym (ap pairs_of (range_split 0 n 1)
-           ∙ flat_map-append (λ n. pairs_with n (negations nodes (node_at nodes n))) (range_with_len 0 n) ((0 + n) ∷ [])
-           ∙ ap (λ j. pairs_of (range_with_len 0 n) ++ pairs_of (j ∷ [])) zero_plus
-           ∙ ap (λ ps. pairs_of (range_with_len 0 n) ++ ps) (append-nil (pairs_with n (negations nodes (node_at nodes n)))))
+    ∙ flat_map-append (λ n. pairs_with n (negations nodes (node_at nodes n))) (range_with_len 0 n) ((0 + n) ∷ [])
+    ∙ ap (λ j. pairs_of (range_with_len 0 n) ++ pairs_of (j ∷ [])) zero_plus
+    ∙ ap (λ ps. pairs_of (range_with_len 0 n) ++ ps) (append-nil (pairs_with n (negations nodes (node_at nodes n)))))
   where
     pairs_of : List ℕ → List (ℕ × ℕ)
     pairs_of ns = flat_map (λ n. pairs_with n (negations nodes (node_at nodes n))) ns
+
     zero_plus : 0 + n ≡ n
     zero_plus = omega arith
 
@@ -257,7 +261,7 @@ pub until_consistent : (pairs : List (ℕ × ℕ)) (n : ℕ) (fs gs raw : List B
 until_consistent pairs n fs gs raw h k e =
     consistent_covers pairs raw
     (subst (All (λ c. consistent pairs c.literals ≡ true)) (sym e)
-        (All-append (λ c. consistent pairs c.literals ≡ true) (covers_of gs) _ (covers_consistent pairs gs k) (put pairs (covers_of fs) (covers_consistent pairs fs h))))
+    (All-append (λ c. consistent pairs c.literals ≡ true) (covers_of gs) _ (covers_consistent pairs gs k) (put pairs (covers_of fs) (covers_consistent pairs fs h))))
   where
     put : (pairs : List (ℕ × ℕ)) (xs : List CoverSets) → All (λ c. consistent pairs c.literals ≡ true) xs
         → All (λ c. consistent pairs c.literals ≡ true) (products xs (only 0 (2 ^ n) (2 ^ n) ∷ []))
@@ -300,7 +304,7 @@ pub release_consistent : (pairs : List (ℕ × ℕ)) (fs ends one two : List Bit
 release_consistent pairs fs ends one two c h m k e f g =
     subst (AreConsistent pairs) (sym (e ∙ ap (λ xs. fs ++ xs) (f ∙ g)))
     (All-append (λ (c : BitCover). consistent pairs (set_of c.literals) ≡ true) fs (c ∷ []) h
-        (one_consistent pairs c (ap (λ (s : CoverSets). consistent pairs s.literals) k ∙ consistent_none pairs)))
+    (one_consistent pairs c (ap (λ (s : CoverSets). consistent pairs s.literals) k ∙ consistent_none pairs)))
 
 abbrev pub made : List (ℕ × ℕ) → List Row → TableData
 made pairs rows = record { opposites = pairs; rows = rows }

@@ -135,12 +135,15 @@ same_ascending (x ∷ xs) (y ∷ ys) a b f g = rest (heads (f x (inl refl)) (g y
     heads (inl e) n = sym e
     heads (inr m) (inl e) = e
     heads (inr m) (inr n) = absurd (not_both x y (a.0 y n) (b.0 x m))
+
     there : x ≡ y → (c : CoverSets) → IsIn c xs → IsIn c (y ∷ ys) → IsIn c ys
     there e c m (inl n) = absurd (not_self x c (e ∙ n) (a.0 c m))
     there e c m (inr n) = n
+
     here : x ≡ y → (c : CoverSets) → IsIn c ys → IsIn c (x ∷ xs) → IsIn c xs
     here e c m (inl n) = absurd (not_self y c (sym e ∙ n) (b.0 c m))
     here e c m (inr n) = n
+
     rest : x ≡ y → (((c : CoverSets) → IsIn c xs → IsIn c ys) → ((c : CoverSets) → IsIn c ys → IsIn c xs) → xs ≡ ys) → x ∷ xs ≡ y ∷ ys
     rest e rec =
         let t : xs ≡ ys = rec (λ c m. there e c m (f c (inr m))) (λ c m. here e c m (g c (inr m))) in
@@ -167,6 +170,7 @@ placed_in c (d ∷ ds) e m = go (λ k. placed_in c ds e k) (cover_cmp c d) refl 
     deeper : IsIn e (c ∷ ds) → IsIn e (c ∷ d ∷ ds)
     deeper (inl k) = inl k
     deeper (inr k) = inr (inr k)
+
     go : (IsIn e (placed c ds) → IsIn e (c ∷ ds)) → (o : Ordering) → cover_cmp c d ≡ o
         → IsIn e (match_ordering o (c ∷ d ∷ ds) (d ∷ ds) (d ∷ placed c ds)) → IsIn e (c ∷ d ∷ ds)
     go rec Less h k = k
@@ -181,9 +185,11 @@ placed_ascends c (d ∷ ds) a = go (placed_ascends c ds a.1) (cover_cmp c d) ref
     before : cover_cmp c d ≡ Less → (e : CoverSets) → IsIn e (d ∷ ds) → cover_cmp c e ≡ Less
     before h e (inl k) = subst (λ x. cover_cmp c x ≡ Less) k h
     before h e (inr k) = cover_cmp_total.trans c d e h (a.0 e k)
+
     behind : cover_cmp c d ≡ Greater → (e : CoverSets) → IsIn e (c ∷ ds) → cover_cmp d e ≡ Less
     behind h e (inl k) = subst (λ x. cover_cmp d x ≡ Less) k (back c d Greater h)
     behind h e (inr k) = a.0 e k
+
     go : IsAscending (placed c ds) → (o : Ordering) → cover_cmp c d ≡ o → IsAscending (match_ordering o (c ∷ d ∷ ds) (d ∷ ds) (d ∷ placed c ds))
     go rec Less h = (before h, a)
     go rec Equal h = a
@@ -366,6 +372,7 @@ keeps_one P kept c keeps small = go (list_any (λ k. part_of k c) kept) refl
     was_covered : (k : CoverSets) × IsIn k kept × (part_of k c ≡ true) → (d : CoverSets) → P d ⊎ (c ≡ d) → (k : CoverSets) × IsIn k kept × (part_of k d ≡ true)
     was_covered w d (inl p) = keeps.all d p
     was_covered w d (inr e) = (w.0, w.1, subst (λ x. part_of w.0 x ≡ true) e w.2)
+
     dropped : (k : CoverSets) × IsIn k kept × (part_of k c ≡ true) → Keeps (λ d. P d ⊎ (c ≡ d)) kept
     dropped w = record {
       from = λ d m. inl (keeps.from d m);
@@ -373,17 +380,22 @@ keeps_one P kept c keeps small = go (list_any (λ k. part_of k c) kept) refl
       least = keeps.least;
       once = keeps.once;
     }
+
     free : list_any (λ k. part_of k c) kept ≡ false → (k : CoverSets) → IsIn k kept → part_of k c ≡ false
     free none k m = any_none (λ k. part_of k c) kept none k m
+
     absent : list_any (λ k. part_of k c) kept ≡ false → IsIn c kept → ⊥
     absent none m = both_ways (part_of c c) (free none c m) (part_self c)
+
     members : (d : CoverSets) → IsIn d kept ⊎ IsIn d (c ∷ []) → P d ⊎ (c ≡ d)
     members d (inl m) = inl (keeps.from d m)
     members d (inr (inl e)) = inr e
     members d (inr (inr m)) = absurd m
+
     covered : (d : CoverSets) → P d ⊎ (c ≡ d) → (k : CoverSets) × IsIn k (kept ++ c ∷ []) × (part_of k d ≡ true)
     covered d (inl p) = let w = keeps.all d p in (w.0, in_left kept (c ∷ []) w.0 w.1, w.2)
     covered d (inr e) = (c, in_right kept (c ∷ []) c (inl refl), subst (λ x. part_of c x ≡ true) e (part_self c))
+
     least : list_any (λ k. part_of k c) kept ≡ false → (d k : CoverSets) → IsIn d kept ⊎ IsIn d (c ∷ []) → IsIn k kept ⊎ IsIn k (c ∷ []) → part_of k d ≡ true → k ≡ d
     least none d k (inl m) (inl n) h = keeps.least d k m n h
     least none d k (inl m) (inr (inl e)) h =
@@ -395,6 +407,7 @@ keeps_one P kept c keeps small = go (list_any (λ k. part_of k c) kept) refl
     least none d k (inr (inl e)) (inr (inl f)) h = sym f ∙ e
     least none d k (inr (inl e)) (inr (inr n)) h = absurd n
     least none d k (inr (inr m)) n h = absurd m
+
     go : (b : Bool) → list_any (λ k. part_of k c) kept ≡ b → Keeps (λ d. P d ⊎ (c ≡ d)) (cond b kept (kept ++ c ∷ []))
     go true some = dropped (any_from (λ k. part_of k c) kept some)
     go false none = record {
@@ -412,6 +425,7 @@ kept_small kept c d cs h l k m = go (list_any (λ k. part_of k c) kept) m
     old (inl n) = h k n
     old (inr (inl e)) = subst (λ x. size_of x ≤ size_of d) e l
     old (inr (inr n)) = absurd n
+
     go : (b : Bool) → IsIn k (cond b kept (kept ++ c ∷ [])) → size_of k ≤ size_of d
     go true n = h k n
     go false n = old (in_either kept (c ∷ []) k n)
@@ -432,16 +446,18 @@ keeps_more P kept [] keeps s h = record {
 keeps_more P kept (c ∷ cs) keeps s h =
     turned (kept_from (kept_after kept c) cs)
     (keeps_more (λ d. P d ⊎ (c ≡ d)) (kept_after kept c) cs (keeps_one P kept c keeps (λ k m. h k c m (inl refl))) s.1
-        (λ k d m n. kept_small kept c d cs (λ k m. h k d m (inr n)) (s.0 d n) k m))
+    (λ k d m n. kept_small kept c d cs (λ k m. h k d m (inr n)) (s.0 d n) k m))
   where
     to : (d : CoverSets) → (P d ⊎ (c ≡ d)) ⊎ IsIn d cs → P d ⊎ IsIn d (c ∷ cs)
     to d (inl (inl p)) = inl p
     to d (inl (inr e)) = inr (inl e)
     to d (inr n) = inr (inr n)
+
     back_to : (d : CoverSets) → P d ⊎ IsIn d (c ∷ cs) → (P d ⊎ (c ≡ d)) ⊎ IsIn d cs
     back_to d (inl p) = inl (inl p)
     back_to d (inr (inl e)) = inl (inr e)
     back_to d (inr (inr n)) = inr n
+
     turned : (end : List CoverSets) → Keeps (λ d. (P d ⊎ (c ≡ d)) ⊎ IsIn d cs) end → Keeps (λ d. P d ⊎ IsIn d (c ∷ cs)) end
     turned end k = record { from = λ d m. to d (k.from d m); all = λ d p. k.all d (back_to d p); least = k.least; once = k.once }
 
@@ -471,9 +487,11 @@ kept_minimal cs ps f g kept keeps c = (
     only_in : (d : CoverSets) → ⊥ ⊎ IsIn d cs → IsIn d cs
     only_in d (inl n) = absurd n
     only_in d (inr n) = n
+
     up : (b : Bool) {q : Bool} → b ≡ true → (not b || q) ≡ true → q ≡ true
     up true h k = k
     up false h k = absurd (both_ways false refl h)
+
     whole : IsIn c kept → (d : CoverSets) → IsIn d ps → (b : Bool) → part_of d c ≡ b → (not b || part_of c d) ≡ true
     whole m d n false e = refl
     whole m d n true e =

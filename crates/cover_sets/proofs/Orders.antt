@@ -107,9 +107,10 @@ same_has a b s (suc m) h n l k = go (λ e i j. same_has a b (s + 1) m e n i j) (
         → (t : Bool) → eqb n s ≡ t → has a n ≡ has b n
     here rec c p q e true t = let i : n ≡ s = grind arith in ap (has a) i ∙ p ∙ sym q ∙ ap (has b) (sym i)
     here rec c p q e false t = let i : n ≢ s = λ (i : n ≡ s). absurd (grind arith) in rec e (omega arith) (omega arith)
+
     go : (filter (has a) (range_with_len (s + 1) m) ≡ filter (has b) (range_with_len (s + 1) m) → s + 1 ≤ n → n < s + 1 + m → has a n ≡ has b n) → (c d : Bool) → has a s ≡ c → has b s ≡ d
         → cond c (s ∷ filter (has a) (range_with_len (s + 1) m)) (filter (has a) (range_with_len (s + 1) m))
-          ≡ cond d (s ∷ filter (has b) (range_with_len (s + 1) m)) (filter (has b) (range_with_len (s + 1) m))
+        ≡ cond d (s ∷ filter (has b) (range_with_len (s + 1) m)) (filter (has b) (range_with_len (s + 1) m))
         → has a n ≡ has b n
     go rec true true p q e = here rec true p q (cc) (eqb n s) refl
     go rec false false p q e = here rec false p q e (eqb n s) refl
@@ -144,9 +145,11 @@ tied_sets a b l k h = same_from_bits a b (λ n. go n (nat_lt n 512) refl)
   where
     same : (n : ℕ) → n < 512 → has a n ≡ has b n
     same n m = same_has a b 0 512 (tied_lists _ _ h) n (zero_le n) m
+
     bits : (n : ℕ) (c : Bool) → has a n ≡ c → has b n ≡ c → bit_at a n ≡ bit_at b n
     bits n true p q = one_bit a n p ∙ sym (one_bit b n q)
     bits n false p q = no_bit a n p ∙ sym (no_bit b n q)
+
     go : (n : ℕ) (c : Bool) → nat_lt n 512 ≡ c → bit_at a n ≡ bit_at b n
     go n true e = bits n (has b n) (same n (lt_true n 512 e)) refl
     go n false e = bit_at_above a 512 n l (lt_false n 512 e) ∙ sym (bit_at_above b 512 n k (lt_false n 512 e))
@@ -170,8 +173,10 @@ cmp_at a b d l w same ha hb =
   where
     m : ℕ
     m = 511 - d
+
     rest : ℕ → List ℕ
     rest x = filter (has x) (range_with_len (d + 1) m)
+
     -- the numbers up to d, and those behind it
     parts : (x : ℕ) (c : Bool) → has x d ≡ c → filter (has x) (range_with_len 0 512) ≡ filter (has x) (range_with_len 0 d) ++ cond c (d ∷ filter (has x) (range_with_len (d + 1) m)) (filter (has x) (range_with_len (d + 1) m))
     parts x c h =
@@ -182,10 +187,13 @@ cmp_at a b d l w same ha hb =
         ∙ filter-append (has x) (range_with_len 0 d) (range_with_len (0 + d) (suc m))
         ∙ ap (λ n. filter (has x) (range_with_len 0 d) ++ filter (has x) (range_with_len n (suc m))) f
         ∙ ap (λ t. filter (has x) (range_with_len 0 d) ++ cond t (d ∷ filter (has x) (range_with_len (d + 1) m)) (filter (has x) (range_with_len (d + 1) m))) h
+
     parts_a : filter (has a) (range_with_len 0 512) ≡ filter (has b) (range_with_len 0 d) ++ d ∷ rest a
     parts_a = parts a true ha ∙ ap (λ xs. xs ++ d ∷ filter (has a) (range_with_len (d + 1) m)) (same_range a b 0 d (λ n _ k. same n (omega arith)))
+
     parts_b : filter (has b) (range_with_len 0 512) ≡ filter (has b) (range_with_len 0 d) ++ rest b
     parts_b = parts b false hb
+
     go : (xs : List ℕ) → filter (has b) (range_with_len (d + 1) m) ≡ xs → (c : Bool) → nat_le (2 ^ (d + 1)) b ≡ c → slice_cmp nat_cmp (d ∷ rest a) xs ≡ cond c Less Greater
     go [] e true t =
         let f : d + 1 + m ≡ 512 = omega arith in
@@ -292,6 +300,7 @@ goes_nowhere ws i t k f l m u h z =
   where
     one_more : (x y : ℕ) → (x + 1) * y ≡ x * y + y
     one_more x y = omega arith
+
     later : (j : ℕ) (c : Bool) → nat_lt (i + 1 + j) k ≡ c → get_or ws (i + 1 + j) 0 ≡ 0
     later j true e = z (i + 1 + j) (omega arith) (grind arith)
     later j false e = let o : k ≤ i + 1 + j = grind arith in get_or_past ws (i + 1 + j) 0 (omega (arith, f.0))
@@ -315,8 +324,8 @@ some_bit x y f g ne = go (nat_lt 0 (bit_xor x y)) refl
 
 pub first_bit : (x y : ℕ) → x < 2 ^ 64 → y < 2 ^ 64 → (x ≡ y → ⊥)
     → (count_trailing_zeros 64 (bit_xor x y) < 64)
-      × (bit_at (bit_xor x y) (count_trailing_zeros 64 (bit_xor x y)) ≡ 1)
-      × ((n : ℕ) → n < count_trailing_zeros 64 (bit_xor x y) → bit_at (bit_xor x y) n ≡ 0)
+    × (bit_at (bit_xor x y) (count_trailing_zeros 64 (bit_xor x y)) ≡ 1)
+    × ((n : ℕ) → n < count_trailing_zeros 64 (bit_xor x y) → bit_at (bit_xor x y) n ≡ 0)
 first_bit x y f g ne = bit_at-trailing_zeros w64 (bit_xor x y) (some_bit x y f g ne) (xor_lt 64 x y f g)
 
 -- both sets up to the first bit that differs
@@ -342,8 +351,10 @@ differ_at xs ys i f g l same ne = record {
   where
     t : ℕ
     t = count_trailing_zeros 64 (bit_xor (get_or xs i 0) (get_or ys i 0))
+
     first : (t < 64) × (bit_at (bit_xor (get_or xs i 0) (get_or ys i 0)) t ≡ 1) × ((n : ℕ) → n < t → bit_at (bit_xor (get_or xs i 0) (get_or ys i 0)) n ≡ 0)
     first = first_bit _ _ (f.1 i 0 (omega (arith, f.0))) (g.1 i 0 (omega (arith, g.0))) ne
+
     word : (n : ℕ) → n < i * 64 + t → (b : Bool) → nat_lt (n / 64) i ≡ b → bit_at (get_or xs (n / 64) 0) (n % 64) ≡ bit_at (get_or ys (n / 64) 0) (n % 64)
     word n k true e = ap (λ w. bit_at w (n % 64)) (same (n / 64) (grind arith))
     word n k false e =

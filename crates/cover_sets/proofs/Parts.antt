@@ -18,6 +18,7 @@ use Rattle.cover_sets.specs.declared.number_sets.NumberSet.{NumberSet}
 use Rattle.cover_sets.specs.Numbers.{is_part, joined, or_all, set_cmp}
 use Rattle.cover_sets.specs.Covers.{CoverSets, both, cover_cmp, part_of}
 use Rattle.cover_sets.specs.Bits.{set_of, sets_of, signature_of, size_of}
+pub use Rattle.cover_sets.specs.Reduced.{Narrow}
 use Rattle.cover_sets.proofs.Words.{IsFit, part_step}
 use Rattle.cover_sets.proofs.Orders.{joined_below, set_cmp_total, tied_sets}
 
@@ -81,9 +82,9 @@ ones_part (suc k) a b h l e =
     let g = ones_half b in (
       omega (arith, high.0, low.0),
       λ m.
-      let x : a / 2 ≡ b / 2 = high.1 (omega (arith, low.0)) in
-      let y : a % 2 ≡ b % 2 = low.1 (omega (arith, high.0)) in
-      omega arith,
+          let x : a / 2 ≡ b / 2 = high.1 (omega (arith, low.0)) in
+          let y : a % 2 ≡ b % 2 = low.1 (omega (arith, high.0)) in
+          omega arith,
     )
 
 self_below : (n : ℕ) → n < 2 ^ n
@@ -150,11 +151,6 @@ part_whole a b h k =
     same_sets a b (l.1 (omega (arith, n.0, o.0))) (n.1 (omega (arith, l.0, o.0))) (o.1 (omega (arith, l.0, n.0)))
 
 -- ---- covers of numbers below 512
-
-pub record Narrow (c : CoverSets) : Type 0 where
-  pub literals : c.literals < 2 ^ 512
-  pub next : c.next < 2 ^ 512
-  pub postponed : c.postponed < 2 ^ 512
 
 pub kept_narrow : (c : BitCover) → Narrow (sets_of c)
 kept_narrow c = record { literals = joined_below c.literals.words c.literals.fit; next = joined_below c.next.words c.next.fit; postponed = joined_below c.postponed.words c.postponed.fit }

@@ -55,6 +55,7 @@ no_part covers signatures at own signature c d e l o s n = go (part_of (sets_of 
   where
     is : own ≡ signature_of (get_or covers at d)
     is = o ∙ ap (λ xs. get_or xs at 0) e ∙ get_or-map signature_of covers at d 0 l
+
     go : (b : Bool) → part_of (sets_of (get_or covers at d)) (sets_of c) ≡ b → b ≡ false
     go true h = absurd (n (ap (λ x. bit_and x signature) is ∙ ap (bit_and (signature_of (get_or covers at d))) s ∙ part_signature (get_or covers at d) c h ∙ sym is))
     go false h = refl
@@ -90,8 +91,8 @@ pub meets_tells : (pairs : List (ℕ × ℕ)) (xs ys : List BitCover) (left righ
 meets_tells pairs xs ys left right x y against r p q l k e f h m =
     ap (λ (c : CoverSets). consistent pairs c.literals) (union_is xs ys left right x y l k e f)
     ∙ consistent_union pairs (set_of x.literals) (set_of y.literals)
-      (subst (λ (c : BitCover). consistent pairs (set_of c.literals) ≡ true) (sym e) (p left x l))
-      (subst (λ (c : BitCover). consistent pairs (set_of c.literals) ≡ true) (sym f) (q right y k))
+    (subst (λ (c : BitCover). consistent pairs (set_of c.literals) ≡ true) (sym e) (p left x l))
+    (subst (λ (c : BitCover). consistent pairs (set_of c.literals) ≡ true) (sym f) (q right y k))
     ∙ sym (ap not (m ∙ ap not (h (set_of y.literals)) ∙ not_not (clashes pairs (set_of x.literals) (set_of y.literals))))
 
 -- the unions before, and those with the first i covers of the other list
@@ -112,7 +113,7 @@ adding_no pairs xs ys left before unions i a l h = record {
   more =
       a.more
       ∙ ap (λ cs. map (union_at xs ys) before ++ cs)
-        (sym (with_more pairs (get_or xs left no_demand) ys i no_demand false l h ∙ append-nil (all_consistent pairs (map (both (get_or xs left no_demand)) (take i ys)))));
+      (sym (with_more pairs (get_or xs left no_demand) ys i no_demand false l h ∙ append-nil (all_consistent pairs (map (both (get_or xs left no_demand)) (take i ys)))));
 }
 
 pub adding_yes : (pairs : List (ℕ × ℕ)) (xs ys : List CoverSets) (left : ℕ) (before unions new : List Union) (i : ℕ) (u : Union) → Adding pairs xs ys left before unions i
@@ -196,7 +197,7 @@ sorted_sets (b ∷ bs) s = λ k d l h.
     let e : length (covers_of (b ∷ bs)) ≡ length (b ∷ bs) = length-map (b ∷ bs) sets_of in
     subst (λ x. is_lt (cover_cmp x (get_or (covers_of (b ∷ bs)) k d)) ≡ false) (sym (get_or-map sets_of (b ∷ bs) (k + 1) b d (omega arith)))
     (subst (λ x. is_lt (cover_cmp (sets_of (get_or (b ∷ bs) (k + 1) b)) x) ≡ false) (sym (get_or-map sets_of (b ∷ bs) k b d (omega arith)))
-        (s k b l (omega arith)))
+    (s k b l (omega arith)))
 
 pub row_narrow : (list : List CoverSets) → length list ≤ 1024 → narrow list ≡ Some list
 row_narrow list l = ap (λ b. cond b (Some list) None) (le-leb (length list) 1024 l)
@@ -245,7 +246,7 @@ module _ (pairs : List (ℕ × ℕ)) (xs ys : List BitCover) (us : List CoverSet
   product_wide l =
       let k : List CoverSets = kept_from [] us in
       let e : reduced pairs (products (covers_of xs) (covers_of ys)) ≡ ascending (kept_from [] us) =
-          reduced_is (ascending (kept_from [] us)) (ascending_ascends (kept_from [] us)) (λ c m. in_ascending (kept_from [] us) narrow_kept c m) (λ c m. ascending_in (kept_from [] us) c m) in
+      reduced_is (ascending (kept_from [] us)) (ascending_ascends (kept_from [] us)) (λ c m. in_ascending (kept_from [] us) narrow_kept c m) (λ c m. ascending_in (kept_from [] us) c m) in
       let f : length (ascending (kept_from [] us)) ≡ length (kept_from [] us) = ascending_length (kept_from [] us) narrow_kept (all_keeps us size).once in
       ap narrow e ∙ row_wide (ascending (kept_from [] us)) (omega arith)
 
@@ -259,15 +260,20 @@ module _ (pairs : List (ℕ × ℕ)) (xs ys : List BitCover) (us : List CoverSet
     where
       few : length list ≤ 1024
       few = omega (arith, length_permutation kept list p)
+
       moved : IsPermutation (kept_from [] us) (covers_of list)
       moved = subst (λ ks. IsPermutation ks (covers_of list)) k (IsPermutation-map sets_of kept list p)
+
       only_in : (d : CoverSets) → ⊥ ⊎ IsIn d us → IsIn d us
       only_in d (inl n) = absurd n
       only_in d (inr n) = n
+
       inner : (c : CoverSets) → IsIn c (covers_of list) → IsIn c us
       inner c m = only_in c ((all_keeps us size).from c (in_permuted (covers_of list) (kept_from [] us) c (IsPermutation-sym (kept_from [] us) (covers_of list) moved) m))
+
       ascends : IsAscending (covers_of list)
       ascends = sorted_ascends (covers_of list) (narrow_covers list) (apart_permuted (kept_from [] us) (covers_of list) moved (all_keeps us size).once) (sorted_sets list s)
+
       is : reduced pairs (products (covers_of xs) (covers_of ys)) ≡ covers_of list
       is = reduced_is (covers_of list) ascends (λ c m. in_permuted (kept_from [] us) (covers_of list) c moved m)
           (λ c m. in_permuted (covers_of list) (kept_from [] us) c (IsPermutation-sym (kept_from [] us) (covers_of list) moved) m)
@@ -279,7 +285,7 @@ pub union_next : (xs ys : List BitCover) (us : List Union) (i : ℕ) (x y : BitC
 union_next xs ys us i x y cover d l p e f is =
     is
     ∙ sym (get_or-map (union_at (covers_of xs) (covers_of ys)) us i d (union_at (covers_of xs) (covers_of ys) d) l
-           ∙ union_is xs ys (get_or us i d).left (get_or us i d).right x y (p i d l).0 (p i d l).1 e f)
+    ∙ union_is xs ys (get_or us i d).left (get_or us i d).right x y (p i d l).0 (p i d l).1 e f)
 
 -- the next union is offered
 pub union_kept : (xs ys : List BitCover) (us : List Union) (kept new : List BitCover) (i : ℕ) (all : List CoverSets) (x y : BitCover) (cover : CoverSets) (d : Union) → i < length us
@@ -299,11 +305,11 @@ pub offer_wide : (xs ys : List BitCover) (us unions : List Union) (kept : List B
 offer_wide xs ys us unions kept i x y cover d l p h e f is same wide =
     let all : List CoverSets = map (union_at (covers_of xs) (covers_of ys)) us in
     let more : kept_from (kept_after (covers_of kept) cover) (drop (i + 1) all) ≡ kept_from [] all =
-        kept_step (covers_of kept) all (kept_after (covers_of kept) cover) i _ (union_at (covers_of xs) (covers_of ys) d) (omega (arith, length-map us (union_at (covers_of xs) (covers_of ys)))) h
-        (ap (kept_after (covers_of kept)) (union_next xs ys us i x y cover d l p e f is)) in
+    kept_step (covers_of kept) all (kept_after (covers_of kept) cover) i _ (union_at (covers_of xs) (covers_of ys) d) (omega (arith, length-map us (union_at (covers_of xs) (covers_of ys)))) h
+    (ap (kept_after (covers_of kept)) (union_next xs ys us i x y cover d l p e f is)) in
     let grows : length (kept_after (covers_of kept) cover) ≤ length (kept_from (kept_after (covers_of kept) cover) (drop (i + 1) all)) = kept_grows (kept_after (covers_of kept) cover) (drop (i + 1) all) in
     let ends : length (kept_from (kept_after (covers_of kept) cover) (drop (i + 1) all)) ≡ length (kept_from [] (map (union_at (covers_of xs) (covers_of ys)) unions)) =
-        ap length (more ∙ ap (λ vs. kept_from [] (map (union_at (covers_of xs) (covers_of ys)) vs)) same) in
+    ap length (more ∙ ap (λ vs. kept_from [] (map (union_at (covers_of xs) (covers_of ys)) vs)) same) in
     omega arith
 
 pub err_told : {T : Type 0} (r : Result T CoverError) (e : CoverError) (P : Type 0) → IsErrAnd r (λ x. x ≡ e) → (e ≡ TooWide → P) → IfErr r (λ x. x ≡ TooWide → P)
@@ -316,4 +322,3 @@ pub all_kept : (xs ys : List BitCover) (us unions : List Union) (kept : List Bit
 all_kept xs ys us unions kept i l h e =
     kept_end (covers_of kept) (map (union_at (covers_of xs) (covers_of ys)) us) i _ (omega (arith, length-map us (union_at (covers_of xs) (covers_of ys)))) h
     ∙ ap (λ vs. kept_from [] (map (union_at (covers_of xs) (covers_of ys)) vs)) e
-

@@ -56,6 +56,7 @@ joined_with xs zs n fx fz here other = same_from_bits _ _ (λ m. bit_in_word zs 
         let r : m % 64 ≢ n % 64 = λ (e : m % 64 ≡ n % 64). absurd (grind arith) in
         let s : m ≢ n = λ (e : m ≡ n). r (ap (λ k. k % 64) e) in
         bit_at-pow_other (n % 64) (m % 64) r ∙ sym (bit_at-pow_other n m s)
+
     go : (m : ℕ) (b : Bool) → eqb (m / 64) (n / 64) ≡ b → bit_at (get_or zs (m / 64) 0) (m % 64) ≡ bit_at (bit_or (joined xs) (2 ^ n)) m
     go m true h =
         let e : m / 64 ≡ n / 64 = grind arith in
@@ -131,6 +132,7 @@ joining_more xs ys zs i j l = record {
   where
     new : ℕ
     new = bit_or (get_or zs i 0) (get_or ys i 0)
+
     more : (k : ℕ) → k < i + 1 → (b : Bool) → eqb k i ≡ b → get_or (set zs i new) k 0 ≡ bit_or (get_or xs k 0) (get_or ys k 0)
     more k h true e =
         let s : k ≡ i = grind arith in
@@ -151,7 +153,7 @@ joining_all xs ys zs i j h = joined_or xs ys zs j.left.1 j.right.1 j.fit.1 (λ k
         let p : 8 ≤ k = grind arith in
         get_or_past zs k 0 (omega (arith, j.fit.0))
         ∙ sym (ap (λ w. bit_or w (get_or ys k 0)) (get_or_past xs k 0 (omega (arith, j.left.0)))
-               ∙ ap (bit_or 0) (get_or_past ys k 0 (omega (arith, j.right.0))))
+        ∙ ap (bit_or 0) (get_or_past ys k 0 (omega (arith, j.right.0))))
 
 -- ---- the words from i on
 
@@ -166,10 +168,10 @@ pub size_more : (xs ys : List ℕ) (i size all : ℕ) → (length xs ≡ 8) × I
     → size + count_ones (bit_or (get_or xs i 0) (get_or ys i 0)) + count_ones (bit_or (joined (drop (i + 1) xs)) (joined (drop (i + 1) ys))) ≡ all
 size_more xs ys i size all f g l h =
     let e : count_ones (bit_or (joined (drop i xs)) (joined (drop i ys)))
-            ≡ count_ones (bit_or (joined (drop (i + 1) xs)) (joined (drop (i + 1) ys))) + count_ones (bit_or (get_or xs i 0) (get_or ys i 0)) =
-        ap (λ a. count_ones (bit_or a (joined (drop i ys)))) (at_words xs i f.0 l)
-        ∙ ap (λ b. count_ones (bit_or (joined (drop (i + 1) xs) * 2 ^ 64 + get_or xs i 0) b)) (at_words ys i g.0 l)
-        ∙ or_step _ _ _ _ (f.1 i 0 (omega (arith, f.0))) (g.1 i 0 (omega (arith, g.0))) in
+    ≡ count_ones (bit_or (joined (drop (i + 1) xs)) (joined (drop (i + 1) ys))) + count_ones (bit_or (get_or xs i 0) (get_or ys i 0)) =
+    ap (λ a. count_ones (bit_or a (joined (drop i ys)))) (at_words xs i f.0 l)
+    ∙ ap (λ b. count_ones (bit_or (joined (drop (i + 1) xs) * 2 ^ 64 + get_or xs i 0) b)) (at_words ys i g.0 l)
+    ∙ or_step _ _ _ _ (f.1 i 0 (omega (arith, f.0))) (g.1 i 0 (omega (arith, g.0))) in
     omega arith
 
 pub size_next : (xs ys : List ℕ) (i size more all : ℕ) → (length xs ≡ 8) × IsFit xs → (length ys ≡ 8) × IsFit ys → i < 8
@@ -181,7 +183,7 @@ size_next xs ys i size more all f g l h e =
 
 pub part_more : (xs ys : List ℕ) (i : ℕ) → (length xs ≡ 8) × IsFit xs → (length ys ≡ 8) × IsFit ys → i < 8
     → is_part (joined (drop i xs)) (joined (drop i ys))
-      ≡ cond (nat_eq (bit_and (get_or xs i 0) (get_or ys i 0)) (get_or xs i 0)) (is_part (joined (drop (i + 1) xs)) (joined (drop (i + 1) ys))) false
+    ≡ cond (nat_eq (bit_and (get_or xs i 0) (get_or ys i 0)) (get_or xs i 0)) (is_part (joined (drop (i + 1) xs)) (joined (drop (i + 1) ys))) false
 part_more xs ys i f g l =
     ap (λ a. is_part a (joined (drop i ys))) (at_words xs i f.0 l)
     ∙ ap (is_part (joined (drop (i + 1) xs) * 2 ^ 64 + get_or xs i 0)) (at_words ys i g.0 l)
@@ -189,7 +191,7 @@ part_more xs ys i f g l =
 
 pub meet_more : (xs ys : List ℕ) (i : ℕ) → (length xs ≡ 8) × IsFit xs → (length ys ≡ 8) × IsFit ys → i < 8
     → nat_eq (bit_and (joined (drop i xs)) (joined (drop i ys))) 0
-      ≡ cond (nat_eq (bit_and (get_or xs i 0) (get_or ys i 0)) 0) (nat_eq (bit_and (joined (drop (i + 1) xs)) (joined (drop (i + 1) ys))) 0) false
+    ≡ cond (nat_eq (bit_and (get_or xs i 0) (get_or ys i 0)) 0) (nat_eq (bit_and (joined (drop (i + 1) xs)) (joined (drop (i + 1) ys))) 0) false
 meet_more xs ys i f g l =
     ap (λ a. nat_eq (bit_and a (joined (drop i ys))) 0) (at_words xs i f.0 l)
     ∙ ap (λ b. nat_eq (bit_and (joined (drop (i + 1) xs) * 2 ^ 64 + get_or xs i 0) b) 0) (at_words ys i g.0 l)
@@ -198,7 +200,7 @@ meet_more xs ys i f g l =
 -- the word that a number's bit goes into
 pub fit_with : (xs : List ℕ) (n : ℕ) → (length xs ≡ 8) × IsFit xs → n < 512
     → (length (set xs (n / 64) (bit_or (get_or xs (n / 64) 0) (1 * 2 ^ (n % 64) % 2 ^ 64))) ≡ 8)
-      × IsFit (set xs (n / 64) (bit_or (get_or xs (n / 64) 0) (1 * 2 ^ (n % 64) % 2 ^ 64)))
+    × IsFit (set xs (n / 64) (bit_or (get_or xs (n / 64) 0) (1 * 2 ^ (n % 64) % 2 ^ 64)))
 fit_with xs n f h = (
   length-set xs (n / 64) _ ∙ f.0,
   All-set (λ w. w < 2 ^ 64) xs (n / 64) _
@@ -259,7 +261,7 @@ pub size_end : (xs ys : List ℕ) (i size all : ℕ) → length xs ≡ 8 → len
     → size + count_ones (bit_or (joined (drop i xs)) (joined (drop i ys))) ≡ all → size ≡ all
 size_end xs ys i size all f g l h =
     let e : count_ones (bit_or (joined (drop i xs)) (joined (drop i ys))) ≡ count_ones 0 =
-        ap (λ a. count_ones (bit_or a (joined (drop i ys)))) (no_words xs i f l) ∙ ap (λ b. count_ones (bit_or 0 b)) (no_words ys i g l) in
+    ap (λ a. count_ones (bit_or a (joined (drop i ys)))) (no_words xs i f l) ∙ ap (λ b. count_ones (bit_or 0 b)) (no_words ys i g l) in
     let z : count_ones 0 ≤ 0 = ones_le_self 0 in
     omega arith
 

@@ -98,7 +98,12 @@ fn rows_of(alloc: Global, opposites: &[(u32, u32)], nodes: &[Node]) -> Result<Ve
 }
 
 /// The row of the formula after those of these rows.
-fn row_of(alloc: Global, opposites: &[(u32, u32)], rows: &[Row], node: &Node) -> Result<Row, AllocError>
+fn row_of(
+    alloc: Global,
+    opposites: &[(u32, u32)],
+    rows: &[Row],
+    node: &Node,
+) -> Result<Row, AllocError>
     requires pairs { ArePairs opposites.now }
     requires rows { All (IsRowConsistent opposites.now) rows.now }
     requires node { IsNodeAt (length rows.now) node.now }
@@ -146,7 +151,11 @@ fn list_of(
 }
 
 /// The list of a formula with a row.
-fn covers_at<'a>(opposites: &[(u32, u32)], rows: &'a [Row], n: u32) -> Result<&'a [BitCover], CoverError>
+fn covers_at<'a>(
+    opposites: &[(u32, u32)],
+    rows: &'a [Row],
+    n: u32,
+) -> Result<&'a [BitCover], CoverError>
     requires rows { All (IsRowConsistent opposites.now) rows.now }
     requires place { n < length rows.now }
     ensures value { IfOk result (λ list. row_at rows.now n ≡ Some (covers_of list.now)) }
@@ -252,7 +261,11 @@ fn release(
 }
 
 /// One list and then the other.
-fn joined_lists(alloc: Global, xs: &[BitCover], ys: &[BitCover]) -> Result<Vec<BitCover>, AllocError>
+fn joined_lists(
+    alloc: Global,
+    xs: &[BitCover],
+    ys: &[BitCover],
+) -> Result<Vec<BitCover>, AllocError>
     requires xs { length xs.now ≤ 1024 }
     requires ys { length ys.now ≤ 1024 }
     ensures { IfOk result (λ list. list.items ≡ xs.now ++ ys.now) }
@@ -264,7 +277,12 @@ fn joined_lists(alloc: Global, xs: &[BitCover], ys: &[BitCover]) -> Result<Vec<B
 }
 
 /// The covers of the second list, and those of the first one with the until with this number put off.
-fn put_off(alloc: Global, n: u32, fs: &[BitCover], gs: &[BitCover]) -> Result<Vec<BitCover>, AllocError>
+fn put_off(
+    alloc: Global,
+    n: u32,
+    fs: &[BitCover],
+    gs: &[BitCover],
+) -> Result<Vec<BitCover>, AllocError>
     requires number { n < 512 }
     requires fs { length fs.now ≤ 1024 }
     requires gs { length gs.now ≤ 1024 }
@@ -306,7 +324,11 @@ fn opposites_of(alloc: Global, nodes: &[Node]) -> Result<Vec<(u32, u32)>, AllocE
 }
 
 /// Adds the pairs of the formula `n` and its negations, where it is a signal.
-fn add_negations(opposites: &mut Vec<(u32, u32)>, nodes: &[Node], n: usize) -> Result<(), AllocError>
+fn add_negations(
+    opposites: &mut Vec<(u32, u32)>,
+    nodes: &[Node],
+    n: usize,
+) -> Result<(), AllocError>
     requires nodes { length nodes.now ≤ 512 }
     requires n { n < length nodes.now }
     ensures { OnOk result (opposites.new.items ≡ opposites.old.items ++ pairs_with n (negations nodes.now (node_at nodes.now n))) }

@@ -26,30 +26,30 @@ loop-union-preserved c =
     )
 
 pub returns-in_err-offer-clause-wide : goal.returns-in_err-offer-clause-wide
-returns-in_err-offer-clause-wide c = 
+returns-in_err-offer-clause-wide c =
     let xs = c.args.xs.now in
     let ys = c.args.ys.now in
     let us = c.deref-union-items.result.now in
     let places = subst (AreUnions (length xs) (length ys)) (sym c.deref-union-items.ensures.value) c.in_ok-unions.ensures.places in
     err_told c.from_residual-in_err-offer.result c.in_err-offer.field-0.0 _ c.from_residual-in_err-offer.ensures.1
     (λ e. product_wide c.args.opposites.now xs ys _ c.in_ok-unions.ensures.all c.in_ok-unions.ensures.order
-        (offer_wide xs ys us c.in_ok-unions.unions.items c.loop-union.kept.covers.items c.loop-union.union-index c.index-xs-union.result c.index-ys-union.result (sets_of c.join-cover.result) _ (omega arith)
-            places c.loop-union.invariant.2 c.index-xs-union.is c.index-ys-union.is c.join-cover.ensures c.deref-union-items.ensures.value (c.in_err-offer.ensures.wide e)))
+    (offer_wide xs ys us c.in_ok-unions.unions.items c.loop-union.kept.covers.items c.loop-union.union-index c.index-xs-union.result c.index-ys-union.result (sets_of c.join-cover.result) _ (omega arith)
+    places c.loop-union.invariant.2 c.index-xs-union.is c.index-ys-union.is c.join-cover.ensures c.deref-union-items.ensures.value (c.in_err-offer.ensures.wide e)))
 
 pub returns-clause-value : goal.returns-clause-value
 returns-clause-value c =
     (product_found c.args.opposites.now c.args.xs.now c.args.ys.now _ c.in_ok-unions.ensures.all c.in_ok-unions.ensures.order c.loop-union.kept.covers.items _
-     (all_kept c.args.xs.now c.args.ys.now c.deref-union-items.result.now c.in_ok-unions.unions.items c.loop-union.kept.covers.items c.loop-union.union-index (omega arith) c.loop-union.invariant.2 c.deref-union-items.ensures.value)
-     c.in_ok-ordered.ensures.all c.in_ok-ordered.ensures.order c.loop-union.invariant.0).0
+    (all_kept c.args.xs.now c.args.ys.now c.deref-union-items.result.now c.in_ok-unions.unions.items c.loop-union.kept.covers.items c.loop-union.union-index (omega arith) c.loop-union.invariant.2 c.deref-union-items.ensures.value)
+    c.in_ok-ordered.ensures.all c.in_ok-ordered.ensures.order c.loop-union.invariant.0).0
 
 pub returns-clause-narrow : goal.returns-clause-narrow
 returns-clause-narrow c =
     (product_found c.args.opposites.now c.args.xs.now c.args.ys.now _ c.in_ok-unions.ensures.all c.in_ok-unions.ensures.order c.loop-union.kept.covers.items _
-     (all_kept c.args.xs.now c.args.ys.now c.deref-union-items.result.now c.in_ok-unions.unions.items c.loop-union.kept.covers.items c.loop-union.union-index (omega arith) c.loop-union.invariant.2 c.deref-union-items.ensures.value)
-     c.in_ok-ordered.ensures.all c.in_ok-ordered.ensures.order c.loop-union.invariant.0).1
+    (all_kept c.args.xs.now c.args.ys.now c.deref-union-items.result.now c.in_ok-unions.unions.items c.loop-union.kept.covers.items c.loop-union.union-index (omega arith) c.loop-union.invariant.2 c.deref-union-items.ensures.value)
+    c.in_ok-ordered.ensures.all c.in_ok-ordered.ensures.order c.loop-union.invariant.0).1
 
 pub returns-clause-consistent : goal.returns-clause-consistent
 returns-clause-consistent c =
     (product_found c.args.opposites.now c.args.xs.now c.args.ys.now _ c.in_ok-unions.ensures.all c.in_ok-unions.ensures.order c.loop-union.kept.covers.items _
-     (all_kept c.args.xs.now c.args.ys.now c.deref-union-items.result.now c.in_ok-unions.unions.items c.loop-union.kept.covers.items c.loop-union.union-index (omega arith) c.loop-union.invariant.2 c.deref-union-items.ensures.value)
-     c.in_ok-ordered.ensures.all c.in_ok-ordered.ensures.order c.loop-union.invariant.0).2
+    (all_kept c.args.xs.now c.args.ys.now c.deref-union-items.result.now c.in_ok-unions.unions.items c.loop-union.kept.covers.items c.loop-union.union-index (omega arith) c.loop-union.invariant.2 c.deref-union-items.ensures.value)
+    c.in_ok-ordered.ensures.all c.in_ok-ordered.ensures.order c.loop-union.invariant.0).2

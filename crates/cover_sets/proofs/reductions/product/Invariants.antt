@@ -8,4 +8,4 @@ invariant-loop-union l =
     (length l.kept.covers.items ≤ 1024)
     × (l.kept.signatures.items ≡ map signature_of l.kept.covers.items)
     × (kept_from (covers_of l.kept.covers.items) (drop l.union-index (map (union_at (covers_of l.xs) (covers_of l.ys)) l.union-items))
-       ≡ kept_from [] (map (union_at (covers_of l.xs) (covers_of l.ys)) l.union-items))
+    ≡ kept_from [] (map (union_at (covers_of l.xs) (covers_of l.ys)) l.union-items))

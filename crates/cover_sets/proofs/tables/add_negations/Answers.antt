@@ -9,10 +9,10 @@ pub loop-m-preserved : goal.loop-m-preserved
 loop-m-preserved c =
     let nodes = c.args.nodes.now in
     elim c.if-are_contrary.branch [
-      then-are_contrary+in_ok-push w ↦
-        negations_more c.args.n c.loop-m.m (node_at nodes c.args.n) nodes c.loop-m.opposites.items _ _ _ (sym c.are_contrary.ensures ∙ w.if-are_contrary.true) c.loop-m.invariant
-        (ap (λ v. v.items) w.opposites-is ∙ w.in_ok-push.ensures.items)
-    | else-are_contrary w ↦
-        negations_more c.args.n c.loop-m.m (node_at nodes c.args.n) nodes c.loop-m.opposites.items _ _ _ (sym c.are_contrary.ensures ∙ w.if-are_contrary.false) c.loop-m.invariant
-        (ap (λ v. v.items) w.opposites-is ∙ sym (append-nil _))
+      | then-are_contrary+in_ok-push w ↦
+          negations_more c.args.n c.loop-m.m (node_at nodes c.args.n) nodes c.loop-m.opposites.items _ _ _ (sym c.are_contrary.ensures ∙ w.if-are_contrary.true) c.loop-m.invariant
+          (ap (λ v. v.items) w.opposites-is ∙ w.in_ok-push.ensures.items)
+      | else-are_contrary w ↦
+          negations_more c.args.n c.loop-m.m (node_at nodes c.args.n) nodes c.loop-m.opposites.items _ _ _ (sym c.are_contrary.ensures ∙ w.if-are_contrary.false) c.loop-m.invariant
+          (ap (λ v. v.items) w.opposites-is ∙ sym (append-nil _))
     ]

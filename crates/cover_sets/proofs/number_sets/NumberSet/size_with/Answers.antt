@@ -8,7 +8,7 @@ overflow_add-size c = omega (arith, c.loop-i.invariant.1, c.ones-size.ensures.sm
 pub loop-i-preserved : goal.loop-i-preserved
 loop-i-preserved c = (
   size_next c.args.self.now.words c.args.other.now.words c.loop-i.i c.loop-i.size c.ones-size.result _ c.args.self.now.fit c.args.other.now.fit (omega arith) c.loop-i.invariant.0
-  c.ones-size.ensures.value,
+      c.ones-size.ensures.value,
   omega (arith, c.loop-i.invariant.1, c.ones-size.ensures.small),
 )
 

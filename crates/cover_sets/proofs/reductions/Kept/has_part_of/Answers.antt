@@ -15,10 +15,10 @@ loop-at-preserved c =
     let l : at < length covers = omega (arith, same_length covers _ is) in
     part_passed covers at cover cover _ l c.loop-at.invariant
     (elim c.else-own-signature.branch [
-         else-own-signature-via-then-own-signature+else-is_part_of w ↦
-           subst (λ x. part_of (sets_of x) (sets_of cover) ≡ false) (get_or_read covers at w.index.result.now l w.index.ensures cover) (sym w.is_part_of.ensures ∙ w.if-is_part_of.false)
-       | else-own-signature-via-else-own-signature w ↦ no_part covers _ at _ c.args.signature cover cover is l refl c.requires.signature w.if-own-signature.false
-       ])
+      | else-own-signature-via-then-own-signature+else-is_part_of w ↦
+          subst (λ x. part_of (sets_of x) (sets_of cover) ≡ false) (get_or_read covers at w.index.result.now l w.index.ensures cover) (sym w.is_part_of.ensures ∙ w.if-is_part_of.false)
+      | else-own-signature-via-else-own-signature w ↦ no_part covers _ at _ c.args.signature cover cover is l refl c.requires.signature w.if-own-signature.false
+    ])
 
 pub returns-then-is_part_of : goal.returns-then-is_part_of
 returns-then-is_part_of c =
