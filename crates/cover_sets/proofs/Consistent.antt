@@ -1,10 +1,10 @@
 -- Literals that contradict each other.
-use Rattle.std.proofs.Common.{◌≡◌, ℕ, zero, suc, ◌+◌, ◌*◌, ◌^◌, ◌<◌, ◌≤◌, Bool, true, false, not, ◌&&◌, ◌||◌, cond, nat_eq, List, [], ◌∷◌, ◌++◌, length, get_or, take, refl, sym, ap, ◌∙◌, subst, arith, min, max}
-use Rattle.std.specs.Prelude.{bit_and, bit_or, All}
+use Rattle.std.proofs.Common.{◌≡◌, ℕ, zero, suc, ◌+◌, ◌*◌, ◌^◌, ◌<◌, ◌≤◌, Bool, true, false, not, ◌&&◌, ◌||◌, nat_eq, List, [], ◌∷◌, ◌++◌, length, get_or, take, refl, sym, ap, ◌∙◌, arith, min, max}
+use Rattle.std.specs.Prelude.{bit_and, bit_or}
 use Rattle.std.specs.Int.{bit_at}
 use Rattle.std.specs.List.{list_any}
-use Rattle.std.proofs.lemmas.Bool.{not-true, eq-eqb, ne_eqb}
-use Rattle.std.proofs.lemmas.Nat.{and_comm, le_or_l, le_or_r, pow_pos}
+use Rattle.std.proofs.lemmas.Bool.{not-true, ne_eqb}
+use Rattle.std.proofs.lemmas.Nat.{and_comm, le_or_r, pow_pos}
 use Rattle.std.proofs.lemmas.Nat.Bits.{and_pow, bit_at_and, bit_at_or, bit_at-lt, same_from_bits}
 use Rattle.std.proofs.lemmas.List.{take_more}
 use Rattle.cover_sets.specs.Covers.{consistent}

@@ -1,11 +1,10 @@
 -- The rows of formulas and of sets of them.
-use Rattle.std.proofs.Common.{◌≡◌, ℕ, zero, suc, ◌+◌, ◌^◌, ◌<◌, ◌≤◌, ◌≢◌, Bool, true, false, not, ◌&&◌, ◌||◌, ◌⊎◌, inl, inr, cond, nat_eq, eqb, nat_lt, List, [], ◌∷◌, ◌++◌, length, map, get_or, take, drop, Option, Some, None, Result, Ok, Err, refl, sym, ap, ◌∙◌, subst, arith}
-use Rattle.std.specs.Prelude.{bit_or, All, fold, IfSome}
+use Rattle.std.proofs.Common.{◌≡◌, ℕ, zero, suc, ◌+◌, ◌^◌, ◌<◌, ◌≤◌, ◌≢◌, Bool, true, false, not, ◌&&◌, ◌||◌, cond, nat_eq, eqb, List, [], ◌∷◌, ◌++◌, length, map, get_or, take, drop, Some, None, Result, Ok, Err, refl, sym, ap, ◌∙◌, subst, arith}
+use Rattle.std.specs.Prelude.{bit_or, All, fold}
 use Rattle.std.specs.Result.{IfErr, IfOk, IsErrAnd}
-use Rattle.std.specs.Int.{bit_at}
 use Rattle.std.specs.List.{filter, flat_map, list_any, range_with_len}
 use Rattle.std.proofs.lemmas.Bool.{eqb-true, eqb-false, false≢true}
-use Rattle.std.proofs.lemmas.List.{append-nil, append_assoc, drop_all, drop_more, get_or_read, get_or-map, length-map, length_push, map-append, map_push, take_all, take_more}
+use Rattle.std.proofs.lemmas.List.{append-nil, append_assoc, drop_all, drop_more, get_or_read, get_or-map, length-map, length_push, take_more}
 use Rattle.std.proofs.lemmas.List.Concat.{flat_map-append}
 use Rattle.std.proofs.lemmas.List.Elements.{All-append, All-cons, All-head, All-map, All-nil, All-push, All-tail, filter-append}
 use Rattle.std.proofs.lemmas.Nat.Bits.{bit_at-pow_other, bit_at-zero}
@@ -19,9 +18,9 @@ use Rattle.cover_sets.specs.Cover.{ArePairs, IsPair, IsRowConsistent, TableData,
 use Rattle.cover_sets.specs.Covers.{CoverSets, Row, ascending, both, consistent, contrary, minimal_of, narrow, negations, no_demand, node_at, only, opposites, pairs_with, part_of, products, raw_of, reduced, reduced_row, row_at, rows_after, rows_of, set_row, times, until_raw, with_members, with_two}
 use Rattle.cover_sets.specs.Numbers.{has}
 use Rattle.cover_sets.specs.Union.{AreConsistent, covers_of}
-use Rattle.cover_sets.proofs.Orders.{one_bit, range_split}
+use Rattle.cover_sets.proofs.Orders.{range_split}
 use Rattle.cover_sets.proofs.Parts.{part_self}
-use Rattle.cover_sets.proofs.Unions.{err_told, row_narrow}
+use Rattle.cover_sets.proofs.Unions.{err_told}
 use Rattle.cover_sets.proofs.Words.{or_zero}
 
 -- ---- consistent covers

@@ -1,6 +1,6 @@
 -- The order of sets by their ascending lists.
-use Rattle.std.proofs.Common.{◌≡◌, ℕ, zero, suc, ◌+◌, ◌*◌, ◌/◌, ◌%◌, ◌-◌, ◌^◌, ◌<◌, ◌≤◌, ◌≢◌, Bool, true, false, not, cond, nat_eq, nat_lt, nat_le, eqb, List, [], ◌∷◌, ◌++◌, length, get_or, drop, refl, sym, ap, ◌∙◌, subst, arith}
-use Rattle.std.specs.Prelude.{bit_and, bit_or}
+use Rattle.std.proofs.Common.{◌≡◌, ℕ, zero, suc, ◌+◌, ◌*◌, ◌/◌, ◌%◌, ◌-◌, ◌^◌, ◌<◌, ◌≤◌, ◌≢◌, Bool, true, false, cond, nat_eq, nat_lt, nat_le, eqb, List, [], ◌∷◌, ◌++◌, length, get_or, drop, refl, sym, ap, ◌∙◌, subst, arith}
+use Rattle.std.specs.Prelude.{bit_and}
 use Rattle.std.specs.Int.{bit_at, w64}
 use Rattle.std.specs.Int.RustNames.{bit_xor}
 use Rattle.std.specs.List.{filter, range_with_len}
@@ -11,7 +11,7 @@ use Rattle.std.specs.declared.cmp.Ordering.{Ordering}
 use Rattle.std.specs.declared.cmp.Ordering.TheVariants.{Less, Equal, Greater}
 use lib.Count.{count_trailing_zeros}
 use Rattle.std.proofs.lemmas.Cmp.{nat_cmp_total, nat_list_cmp_total, on_total, tied_itself, ranked}
-use Rattle.std.proofs.lemmas.Nat.{shr_split, shr-shr, pow-add, pow_pos, le-div, mul-le, mod_below, div_below, xor_lt, pow_below}
+use Rattle.std.proofs.lemmas.Nat.{shr_split, shr-shr, pow-add, pow_pos, mul-le, mod_below, div_below, xor_lt, pow_below}
 use Rattle.std.proofs.lemmas.Nat.Bits.{bit_at_above, bit_at-lt, bit_at_xor, bit_at-trailing_zeros, bit_at-zero, same_from_bits, shr_and_one}
 use Rattle.std.proofs.lemmas.List.{get_or-drop, get_or_past, ext_get_or, append-nil}
 use Rattle.std.proofs.lemmas.List.Elements.{All-drop, filter-append}

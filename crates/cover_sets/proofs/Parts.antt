@@ -1,6 +1,6 @@
 -- Covers that are part of other ones, their sizes and their signatures.
-use Rattle.std.proofs.Common.{◌≡◌, ℕ, zero, suc, ◌+◌, ◌*◌, ◌/◌, ◌%◌, ◌-◌, ◌^◌, ◌<◌, ◌≤◌, ◌≢◌, Bool, true, false, not, ◌&&◌, cond, nat_eq, List, [], ◌∷◌, length, min, max, refl, sym, ap, ◌∙◌, subst, arith}
-use Rattle.std.specs.Prelude.{bit_and, bit_or, All}
+use Rattle.std.proofs.Common.{◌≡◌, ℕ, zero, suc, ◌+◌, ◌*◌, ◌/◌, ◌%◌, ◌-◌, ◌^◌, ◌<◌, ◌≤◌, Bool, true, false, cond, nat_eq, List, [], ◌∷◌, length, min, max, refl, sym, ap, ◌∙◌, arith}
+use Rattle.std.specs.Prelude.{bit_and, bit_or}
 use Rattle.std.specs.Int.{bit_at, w64, rotate_left}
 use Rattle.std.specs.Int.RustNames.{count_ones}
 use Rattle.std.specs.Cmp.{IsTotalOrder}
@@ -15,8 +15,8 @@ use Rattle.std.proofs.lemmas.Nat.Bits.{bit_at_and, bit_at_or, same_from_bits}
 use Rattle.std.proofs.lemmas.List.Elements.{All-head, All-tail}
 use Rattle.cover_sets.specs.declared.bit_covers.BitCover.{BitCover}
 use Rattle.cover_sets.specs.declared.number_sets.NumberSet.{NumberSet}
-use Rattle.cover_sets.specs.Numbers.{is_part, joined, or_all, set_cmp}
-use Rattle.cover_sets.specs.Covers.{CoverSets, both, cover_cmp, part_of}
+use Rattle.cover_sets.specs.Numbers.{is_part, joined, or_all}
+use Rattle.cover_sets.specs.Covers.{CoverSets, cover_cmp, part_of}
 use Rattle.cover_sets.specs.Bits.{set_of, sets_of, signature_of, size_of}
 pub use Rattle.cover_sets.specs.Reduced.{Narrow}
 use Rattle.cover_sets.proofs.Words.{IsFit, part_step}

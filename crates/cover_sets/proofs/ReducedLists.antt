@@ -1,15 +1,15 @@
 -- A reduced list by its members.
-use Rattle.std.proofs.Common.{◌≡◌, ℕ, zero, suc, ◌+◌, ◌<◌, Bool, true, false, not, ◌&&◌, ◌||◌, nat_lt, ◌⊎◌, inl, inr, List, [], ◌∷◌, length, get_or, refl, sym, ap, ◌∙◌, subst, arith}
-use Rattle.std.specs.List.{All, Contains, filter, list_all}
+use Rattle.std.proofs.Common.{◌≡◌, ℕ, zero, suc, ◌+◌, ◌<◌, Bool, true, false, not, ◌&&◌, ◌||◌, nat_lt, inl, inr, List, [], ◌∷◌, length, get_or, refl, sym, subst, arith}
+use Rattle.std.specs.List.{All, filter, list_all}
 use Rattle.std.specs.declared.cmp.Ordering.TheVariants.{Less}
 use Rattle.std.proofs.lemmas.Bool.{both_ways, ltb-true, ltb-false}
 use Rattle.std.proofs.lemmas.List.Elements.{All-filter}
-use Rattle.cover_sets.specs.Covers.{CoverSets, ascending, consistent, cover_cmp, is_minimal, minimal_of, part_of, reduced}
+use Rattle.cover_sets.specs.Covers.{CoverSets, consistent, cover_cmp, is_minimal, part_of, reduced}
 use Rattle.cover_sets.specs.Bits.{size_of}
 use Rattle.cover_sets.specs.Reduced.{IsReduced, Narrow, ReducedIsExact}
 use Rattle.cover_sets.specs.Union.{all_consistent}
-use Rattle.cover_sets.proofs.Members.{IsAscending, IsIn, all_from, all_in, all_to, ascending_ascends, ascending_in, contains_in, filter_from, filter_to, in_all, in_ascending, in_at, in_contains, same_ascending}
-use Rattle.cover_sets.proofs.Parts.{cover_cmp_total, part_antisym, part_self, part_size, part_trans, part_whole, parts_of}
+use Rattle.cover_sets.proofs.Members.{IsAscending, IsIn, all_from, all_to, ascending_ascends, ascending_in, contains_in, filter_from, filter_to, in_ascending, in_contains, same_ascending}
+use Rattle.cover_sets.proofs.Parts.{cover_cmp_total, part_antisym, part_self, part_trans, part_whole}
 
 up : (b : Bool) (q : Bool) → b ≡ true → (not b || q) ≡ true → q ≡ true
 up true q h k = k

@@ -1,25 +1,25 @@
 -- The consistent unions of two lists of covers.
-use Rattle.std.proofs.Common.{◌≡◌, ℕ, zero, suc, ◌+◌, ◌^◌, ◌<◌, ◌≤◌, Bool, true, false, not, ◌||◌, ◌⊎◌, inl, inr, cond, nat_eq, nat_le, Option, Some, None, Result, Ok, Err, List, [], ◌∷◌, ◌++◌, length, map, get_or, take, drop, refl, sym, ap, ◌∙◌, subst, arith}
-use Rattle.std.specs.Prelude.{bit_and, bit_or, All}
-use Rattle.std.specs.List.{filter, flat_map, list_any}
+use Rattle.std.proofs.Common.{◌≡◌, ℕ, ◌+◌, ◌<◌, ◌≤◌, Bool, true, false, not, ◌||◌, ◌⊎◌, inl, inr, cond, nat_eq, Some, None, Result, Ok, Err, List, [], ◌∷◌, ◌++◌, length, map, get_or, take, drop, refl, sym, ap, ◌∙◌, subst, arith}
+use Rattle.std.specs.Prelude.{bit_and, All}
+use Rattle.std.specs.List.{filter, list_any}
 use Rattle.std.specs.List.Sorted.{IsPermutation, IsNonDecreasingBy, IsSorted}
 use Rattle.std.specs.Ordering.{is_lt}
 use Rattle.std.specs.Result.{IfErr, IsErrAnd}
 use Rattle.cover_sets.specs.declared.cover_lists.CoverError.{CoverError}
 use Rattle.cover_sets.specs.declared.cover_lists.CoverError.TheVariants.{TooWide}
-use Rattle.std.proofs.lemmas.Bool.{both_ways, not-false, le-leb, lt-leb}
-use Rattle.std.proofs.lemmas.List.{append-nil, append_assoc, drop_all, drop_more, get_or-map, length-map, map_more, map_push, map-append, take_all, take_more, take-map}
+use Rattle.std.proofs.lemmas.Bool.{le-leb, lt-leb}
+use Rattle.std.proofs.lemmas.List.{append-nil, append_assoc, drop_all, drop_more, get_or-map, length-map, map_more, map_push, take_all, take_more}
 use Rattle.std.proofs.lemmas.List.Concat.{flat_map-append}
-use Rattle.std.proofs.lemmas.List.Elements.{All-append, All-cons, All-filter, All-head, All-map, All-nil, All-push, All-tail, filter-append}
+use Rattle.std.proofs.lemmas.List.Elements.{All-append, All-filter, All-head, All-map, All-nil, All-push, All-tail, filter-append}
 use Rattle.std.proofs.lemmas.List.Sorted.{IsPermutation-map, IsPermutation-sym, length_permutation}
 use Rattle.std.proofs.lemmas.Nat.{or_lt}
 use Rattle.cover_sets.specs.declared.bit_covers.BitCover.{BitCover}
 use Rattle.cover_sets.specs.declared.reductions.Union.{Union}
 use Rattle.cover_sets.specs.Bits.{set_of, sets_of, signature_of, size_of}
-use Rattle.cover_sets.specs.Covers.{CoverSets, ascending, both, consistent, cover_cmp, is_minimal, minimal_of, narrow, no_demand, part_of, products, reduced}
+use Rattle.cover_sets.specs.Covers.{CoverSets, ascending, both, consistent, cover_cmp, narrow, no_demand, part_of, products, reduced}
 use Rattle.cover_sets.specs.Union.{AreBySize, AreConsistent, AreUnions, HaveSizes, all_consistent, clashes, covers_of, kept_after, kept_from, union_at, unions_with}
 use Rattle.cover_sets.proofs.Consistent.{consistent_union}
-use Rattle.cover_sets.proofs.Members.{IsIn, IsAscending, Keeps, AreApart, all_in, apart_permuted, ascending_ascends, ascending_in, ascending_length, by_size, in_all, in_at, in_ascending, in_permuted, filter_from, kept_grows, kept_reduced, keeps_more, sorted_ascends}
+use Rattle.cover_sets.proofs.Members.{IsIn, IsAscending, Keeps, all_in, apart_permuted, ascending_ascends, ascending_in, ascending_length, by_size, in_all, in_at, in_ascending, in_permuted, filter_from, kept_grows, kept_reduced, keeps_more, sorted_ascends}
 use Rattle.cover_sets.proofs.Parts.{Narrow, kept_narrow, part_signature}
 
 -- ---- the search for a part

@@ -1,5 +1,5 @@
 -- Covers as lists of numbers of formulas, and the tables of the covers of formulas.
-use Rattle.std.specs.Prelude.{◌≡◌, ◌≢◌, ℕ, ◌≤◌, ◌<◌, ◌^◌, true, List, All, length, fold, bit_or, IfSome, Option, option_map, map}
+use Rattle.std.specs.Prelude.{◌≡◌, ◌≢◌, ℕ, ◌≤◌, ◌<◌, ◌^◌, true, List, All, length, fold, bit_or, IfSome}
 use Rattle.ltl_form.specs.declared.normals.Node.{Node}
 use Rattle.cover_sets.specs.Covers.{CoverSets, Row, consistent, opposites, rows_of, set_row}
 use Rattle.cover_sets.specs.Numbers.{numbers_of}

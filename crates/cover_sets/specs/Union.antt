@@ -5,7 +5,7 @@ use Rattle.std.specs.List.Sorted.{IsNonDecreasingBy}
 use Rattle.cover_sets.specs.declared.bit_covers.BitCover.{BitCover}
 use Rattle.cover_sets.specs.declared.reductions.Union.{Union}
 use Rattle.cover_sets.specs.Bits.{set_of, sets_of, size_of}
-use Rattle.cover_sets.specs.Covers.{CoverSets, both, consistent, no_demand, part_of, products}
+use Rattle.cover_sets.specs.Covers.{CoverSets, both, consistent, no_demand, part_of}
 use Rattle.cover_sets.specs.Numbers.{has}
 
 -- the three sets of each cover

@@ -1,4 +1,4 @@
-use Rattle.std.proofs.Common.{◌≡◌, ◌≤◌, ◌<◌, ◌^◌, ℕ, [], length, arith, refl, ap, sym, ◌∙◌, not}
+use Rattle.std.proofs.Common.{◌≤◌, ◌<◌, ◌^◌, length, arith, refl, ap, ◌∙◌, not}
 use Rattle.std.proofs.lemmas.List.{take_all}
 use Rattle.std.proofs.lemmas.List.Elements.{All-replicate}
 use Rattle.cover_sets.specs.Bits.{set_of}

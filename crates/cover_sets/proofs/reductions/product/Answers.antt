@@ -1,6 +1,5 @@
-use Rattle.std.proofs.Common.{◌≡◌, ◌≤◌, List, [], length, map, arith, ap, refl, subst, sym, ◌∙◌}
+use Rattle.std.proofs.Common.{length, map, arith, ap, subst, sym, ◌∙◌}
 use Rattle.cover_sets.specs.Bits.{signature_of, sets_of}
-use Rattle.cover_sets.specs.Covers.{no_demand}
 use Rattle.cover_sets.specs.Union.{AreUnions, covers_of, kept_from, union_at}
 use Rattle.cover_sets.proofs.Unions.{all_kept, err_told, offer_wide, product_found, product_wide, union_kept}
 use Rattle.cover_sets.proofs.reductions.product.Goals as goal

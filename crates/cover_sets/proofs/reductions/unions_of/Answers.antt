@@ -3,7 +3,7 @@ use Rattle.std.proofs.lemmas.List.{length-map}
 use Rattle.std.proofs.lemmas.List.Sorted.{All-permutation, IsNonDecreasingBy-from_sort_by_key, IsPermutation-map}
 use Rattle.cover_sets.specs.Bits.{size_of, sets_of}
 use Rattle.cover_sets.specs.Union.{covers_of, union_at}
-use Rattle.cover_sets.proofs.Unions.{all_unions, by_sizes, with_next}
+use Rattle.cover_sets.proofs.Unions.{all_unions, by_sizes}
 use Rattle.cover_sets.proofs.reductions.unions_of.Goals as goal
 
 pub returns-clause-all : goal.returns-clause-all

@@ -1,6 +1,5 @@
-use Rattle.std.proofs.Common.{◌≡◌, None, get_or, subst, sym}
+use Rattle.std.proofs.Common.{subst, sym}
 use Rattle.cover_sets.specs.Cover.{IsRowConsistent}
-use Rattle.cover_sets.specs.Covers.{Row}
 use Rattle.cover_sets.proofs.FormulaRows.{list_consistent}
 use Rattle.cover_sets.proofs.tables.covers_at.Goals as goal
 

@@ -1,4 +1,4 @@
-use Rattle.std.proofs.Common.{◌≡◌, true, length, ap, refl, sym, subst, ◌∙◌, Some, [], ◌∷◌}
+use Rattle.std.proofs.Common.{length, ap, sym, ◌∙◌, Some, [], ◌∷◌}
 use Rattle.cover_sets.specs.Bits.{sets_of}
 use Rattle.cover_sets.specs.Covers.{CoverSets, consistent, no_demand, raw_of, reduced_row}
 use Rattle.cover_sets.specs.Union.{covers_of}

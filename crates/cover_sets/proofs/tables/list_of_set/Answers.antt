@@ -1,4 +1,4 @@
-use Rattle.std.proofs.Common.{◌≡◌, ◌+◌, ◌≤◌, drop, None, Some, length, arith, ap, refl, sym, subst, ◌∙◌}
+use Rattle.std.proofs.Common.{◌≡◌, ◌+◌, ◌≤◌, drop, None, Some, length, arith, ap, sym, subst, ◌∙◌}
 use Rattle.cover_sets.specs.Bits.{set_of}
 use Rattle.cover_sets.specs.Covers.{set_row, with_members}
 use Rattle.cover_sets.specs.Union.{AreConsistent, covers_of}

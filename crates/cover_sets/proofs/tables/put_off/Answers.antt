@@ -1,4 +1,4 @@
-use Rattle.std.proofs.Common.{◌≡◌, ◌+◌, ◌^◌, length, arith, ap, sym, ◌∙◌}
+use Rattle.std.proofs.Common.{◌^◌, length, arith, ap, sym, ◌∙◌}
 use Rattle.std.proofs.lemmas.List.{length-map, length_push, map_push}
 use Rattle.cover_sets.specs.Bits.{sets_of}
 use Rattle.cover_sets.specs.Covers.{both, only}

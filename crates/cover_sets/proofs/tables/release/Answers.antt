@@ -1,9 +1,5 @@
-use Rattle.std.proofs.Common.{ap, sym, subst, ◌∙◌}
-use Rattle.std.proofs.lemmas.List.Elements.{All-append}
-use Rattle.cover_sets.specs.Bits.{set_of}
-use Rattle.cover_sets.specs.Covers.{consistent}
-use Rattle.cover_sets.specs.Union.{AreConsistent}
-use Rattle.cover_sets.proofs.FormulaRows.{consistent_none, release_consistent}
+use Rattle.std.proofs.Common.{◌∙◌}
+use Rattle.cover_sets.proofs.FormulaRows.{release_consistent}
 use Rattle.cover_sets.proofs.tables.release.Goals as goal
 
 pub product-requires-clause-ys : goal.product-requires-clause-ys

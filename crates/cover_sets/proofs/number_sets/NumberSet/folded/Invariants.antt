@@ -1,4 +1,4 @@
-use Rattle.std.proofs.Common.{◌≡◌, ◌<◌, ◌^◌, drop}
+use Rattle.std.proofs.Common.{◌≡◌, drop}
 use Rattle.std.specs.Prelude.{bit_or}
 use Rattle.cover_sets.specs.Numbers.{or_all}
 use Rattle.cover_sets.proofs.number_sets.NumberSet.folded.Given as goal

@@ -2,7 +2,7 @@ use Rattle.std.proofs.Common.{◌≡◌, ◌<◌, ◌∙◌, false, true, length
 use Rattle.std.proofs.lemmas.List.{get_or_read}
 use Rattle.cover_sets.specs.Bits.{sets_of}
 use Rattle.cover_sets.specs.Covers.{part_of}
-use Rattle.cover_sets.proofs.Unions.{no_part, part_found, part_nowhere, part_passed, product_found, same_length}
+use Rattle.cover_sets.proofs.Unions.{no_part, part_found, part_nowhere, part_passed, same_length}
 use Rattle.cover_sets.proofs.reductions.Kept.has_part_of.Goals as goal
 use Rattle.cover_sets.proofs.reductions.Kept.has_part_of.Goals.{else-own-signature-via-then-own-signature+else-is_part_of, else-own-signature-via-else-own-signature}
 
