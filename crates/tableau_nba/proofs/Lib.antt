@@ -1,2 +1,4 @@
 pub mod CubeBits
 pub mod Edges
+pub mod Ranges
+pub mod Spots

@@ -41,7 +41,7 @@ impl<T: Drop> From<AllocFailed<T>> for TableauError {
 }
 
 impl From<CoverError> for TableauError {
-    ghost from_gives = { λ _ _. Unit {0} };
+    ghost from_gives = { λ e t. (t ≡ TooWide → e ≡ Cover_TooWide) × (t ≡ TooManyStates → ⊥) };
 
     fn from(e: CoverError) -> TableauError {
         match e {

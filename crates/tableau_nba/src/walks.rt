@@ -1,6 +1,11 @@
 //! The breadth-first walk over sets of formulas with levels.
 
-ghost use Rattle.std.specs.Prelude.{◌≡◌, ◌<◌, ◌≤◌, length, All, IfOk, OnOk};
+ghost use Rattle.std.specs.Prelude.{◌≡◌, ◌<◌, ◌≤◌, length, map, List, All, IfOk, IfErr, OnOk};
+ghost use Rattle.indexmap.specs.IndexSet.{insert_key};
+ghost use Rattle.cover_sets.specs.Bits.{sets_of};
+ghost use Rattle.cover_sets.specs.Union.{covers_of};
+ghost use Rattle.tableau_nba.specs.declared.tableaux.TableauError.TheVariants.{TooManyStates, TooWide};
+ghost use Rattle.tableau_nba.specs.Walks.{all_spots, edge_in, edges_in, found, grown, same_spot, Spot, spot_of, state_in, target, too_many, too_wide, walk_data};
 ghost use Rattle.indexmap.specs.IndexSet.{index_set_len};
 ghost use Rattle.ltl_form.specs.Normal.{LiteralsBelow};
 ghost use Rattle.word_core.specs.Automaton.{IsEdge};
@@ -43,7 +48,8 @@ impl Walk {
     pub fn new(alloc: Global, f: &Normal, signals: u32) -> Result<Walk, AllocError>
         requires literals { LiteralsBelow signals f.now.nodes }
         requires signals { signals ≤ 64 }
-        ensures { IfOk result (λ walk. walk.signals ≡ signals) }
+        ensures value { IfOk result (λ walk. walk ≡ walk_data f.now.nodes signals) }
+        ensures signals { IfOk result (λ walk. walk.signals ≡ signals) }
     {
         let table = CoverTable::new(alloc, f)?;
         let literals = literals_of(alloc, f.nodes(), signals)?;
@@ -62,6 +68,9 @@ impl Walk {
         ensures some { IfOk result (λ states. 0 < length states.items) }
         ensures few { IfOk result (λ states. length states.items ≤ 4096) }
         ensures edges { IfOk result (λ states. All (All (IsEdge self.now.signals (length states.items))) states.items) }
+        ensures value { IfOk result (λ states. (spots : List Spot) × (all_spots self.now root ≡ found spots) × (states.items ≡ map (state_in self.now spots) spots)) }
+        ensures many { IfErr result (λ e. e ≡ TooManyStates → all_spots self.now root ≡ too_many) }
+        ensures wide { IfErr result (λ e. e ≡ TooWide → all_spots self.now root ≡ too_wide) }
     {
         let mut places = IndexSet::new(alloc);
         places.insert(Place {
@@ -94,6 +103,10 @@ impl Walk {
         ensures more { OnOk result (index_set_len places.old ≤ index_set_len places.new) }
         ensures few { OnOk result (index_set_len places.new ≤ 4096) }
         ensures edges { IfOk result (λ edges. All (IsEdge self.now.signals (index_set_len places.new)) edges.items) }
+        ensures places { IfOk result (λ edges. map spot_of places.new.keys ≡ grown self.now level (covers_of list.now) (map spot_of places.old.keys)) }
+        ensures value { IfOk result (λ edges. edges.items ≡ edges_in self.now (map spot_of places.new.keys) level (covers_of list.now)) }
+        ensures many { IfErr result (λ e. e ≡ TooManyStates → 4096 < length (grown self.now level (covers_of list.now) (map spot_of places.old.keys))) }
+        ensures wide { IfErr result (λ e. e ≡ TooWide → ⊥) }
     {
         let mut edges = IndexSet::new(alloc);
         for cover in list {
@@ -114,6 +127,10 @@ impl Walk {
         ensures more { OnOk result (index_set_len places.old ≤ index_set_len places.new) }
         ensures few { OnOk result (index_set_len places.new ≤ 4096) }
         ensures edge { IfOk result (IsEdge self.now.signals (index_set_len places.new)) }
+        ensures places { IfOk result (λ e. map spot_of places.new.keys ≡ insert_key same_spot (map spot_of places.old.keys) (target self.now.untils level (sets_of cover.now))) }
+        ensures value { IfOk result (λ e. e ≡ edge_in self.now (map spot_of places.new.keys) level (sets_of cover.now)) }
+        ensures many { IfErr result (λ e. e ≡ TooManyStates → 4096 < length (insert_key same_spot (map spot_of places.old.keys) (target self.now.untils level (sets_of cover.now)))) }
+        ensures wide { IfErr result (λ e. e ≡ TooWide → ⊥) }
     {
         let step = step_from(&self.untils, level, cover);
         let (next, _) = places.insert_full(step.to)?;
