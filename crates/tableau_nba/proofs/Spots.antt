@@ -2,7 +2,7 @@
 use Rattle.std.proofs.Common.{◌≡◌, ℕ, zero, suc, ◌+◌, ◌*◌, ◌^◌, ◌<◌, ◌≤◌, Bool, true, false, not, ◌&&◌, ◌||◌, cond, nat_eq, nat_lt, eqb, List, [], ◌∷◌, ◌++◌, length, map, get_or, Option, Some, None, refl, sym, ap, ◌∙◌, subst, arith}
 use Rattle.std.specs.List.{filter, flat_map, range_with_len, list_any, position, position_or_len, prefix_len}
 use Rattle.std.specs.Prelude.{All}
-use Rattle.std.proofs.lemmas.Bool.{both_ways, eqb-false, eqb-true, ltb-false, ltb-true}
+use Rattle.std.proofs.lemmas.Bool.{both_ways, eq-eqb, eqb-false, eqb-true, ltb-false, ltb-true}
 use Rattle.std.proofs.lemmas.List.{append-nil, get_or_at, get_or_append_left, map_push, length-map, length_push}
 use Rattle.std.proofs.lemmas.List.Concat.{flat_map-append}
 use Rattle.std.proofs.lemmas.List.Elements.{All-head, All-tail, filter-append}
@@ -15,9 +15,15 @@ use Rattle.cover_sets.specs.Bits.{set_of}
 use Rattle.cover_sets.specs.Numbers.{joined}
 use Rattle.word_core.specs.contracts.automata.EdgePartialEq.TheImpl as edge_eq
 use Rattle.word_core.specs.declared.automata.Edge.{Edge}
+use Rattle.word_core.specs.declared.cubes.Cube.{Cube}
+use Rattle.cover_sets.specs.Covers.{CoverSets}
 use Rattle.tableau_nba.specs.contracts.places.PlacePartialEq.TheImpl as place_eq
 use Rattle.tableau_nba.specs.declared.places.Place.{Place}
-use Rattle.tableau_nba.specs.Walks.{Spot, same_edge, same_spot, spot_of}
+use Rattle.ltl_form.specs.declared.normals.Node.{Node}
+use Rattle.ltl_form.specs.declared.normals.Node.TheVariants.{True, False, Lit, And, Or, Next, Until, Release}
+use Rattle.ltl_form.specs.Normal.{IsLiteralBelow}
+use Rattle.tableau_nba.specs.declared.cubes.Literal.{Literal}
+use Rattle.tableau_nba.specs.Walks.{Spot, cube_in, edge_in, edges_in, grown, is_marked, literal_at, same_edge, same_spot, spot_of, target}
 use Rattle.cover_sets.specs.Cover.{TableData, covers_in}
 use Rattle.cover_sets.specs.Union.{covers_of}
 use Rattle.cover_sets.specs.declared.bit_covers.BitCover.{BitCover}
@@ -148,3 +154,66 @@ pub flat_next : {X : Type 0} (f : ℕ → List X) (n : ℕ) (xs new more : List 
 flat_next f n xs new more e h k =
     k ∙ ap (λ ys. ys ++ more) e ∙ ap (λ ys. flat_map f (range_with_len 0 n) ++ ys) h
     ∙ sym (ap (flat_map f) (range_more n) ∙ flat_map-append f (range_with_len 0 n) (n ∷ []) ∙ ap (λ ys. flat_map f (range_with_len 0 n) ++ ys) (append-nil (f n)))
+
+abbrev record_of : ℕ → ℕ → Bool → Literal
+record_of n signal positive = record { number = n; signal = signal; positive = positive }
+
+pub literal_fits : (signals n : ℕ) (node : Node) (l : Literal) → l ∷ [] ≡ literal_at n node → IsLiteralBelow signals node → n < 512 → (l.number < 512) × (l.signal < signals)
+literal_fits signals n (Lit signal positive) l e b h =
+    let i : l ≡ record_of n signal positive = cc in
+    subst (λ (x : Literal). (x.number < 512) × (x.signal < signals)) (sym i) (h, b)
+literal_fits signals n True l e b h = absurd cc
+literal_fits signals n False l e b h = absurd cc
+literal_fits signals n (And f g) l e b h = absurd cc
+literal_fits signals n (Or f g) l e b h = absurd cc
+literal_fits signals n (Next f) l e b h = absurd cc
+literal_fits signals n (Until f g) l e b h = absurd cc
+literal_fits signals n (Release f g) l e b h = absurd cc
+
+-- ---- the edge of a cover
+
+and_self : (a : Bool) → a ≡ true → (b : Bool) → b ≡ true → (a && b) ≡ true
+and_self a e b f = ap (λ x. x && b) e ∙ f
+
+pub same_self : (a : Spot) → same_spot a a ≡ true
+same_self a = and_self _ (eq-eqb a.set a.set refl) _ (eq-eqb a.level a.level refl)
+
+position_pushed : {X : Type 0} (p : X → Bool) (xs : List X) (x : X) → list_any p xs ≡ false → p x ≡ true → position_or_len p (xs ++ x ∷ []) ≡ position_or_len p xs
+position_pushed p [] x n y = ap (λ b. cond (not b) 1 0) y
+position_pushed p (z ∷ zs) x n y = go (p z) refl n (λ k. position_pushed p zs x k y)
+  where
+    go : (b : Bool) → p z ≡ b → (b || list_any p zs) ≡ false → (list_any p zs ≡ false → position_or_len p (zs ++ x ∷ []) ≡ position_or_len p zs)
+        → cond (not b) (1 + position_or_len p (zs ++ x ∷ [])) 0 ≡ cond (not b) (1 + position_or_len p zs) 0
+    go true e k rec = refl
+    go false e k rec = ap (λ n. 1 + n) (rec k)
+
+pub position_inserted : (ks : List Spot) (k : Spot) → position_or_len (same_spot k) (insert_key same_spot ks k) ≡ position_or_len (same_spot k) ks
+position_inserted ks k = go (list_any (same_spot k) ks) refl
+  where
+    go : (b : Bool) → list_any (same_spot k) ks ≡ b → position_or_len (same_spot k) (cond b ks (ks ++ k ∷ [])) ≡ position_or_len (same_spot k) ks
+    go true e = refl
+    go false e = position_pushed (same_spot k) ks k e (same_self k)
+
+pub place_put : (ks new : List Place) (k : Place) (t : Spot) → new ≡ insert_key place_eq.eq-value.it ks k → spot_of k ≡ t → map spot_of new ≡ insert_key same_spot (map spot_of ks) t
+place_put ks new k t e f = ap (map spot_of) e ∙ spots_inserted ks k ∙ ap (insert_key same_spot (map spot_of ks)) f
+
+pub place_number : (ks new : List Place) (k : Place) (t : Spot) (n : ℕ) → new ≡ insert_key place_eq.eq-value.it ks k → spot_of k ≡ t → n ≡ position_or_len (place_eq.eq-value.it k) ks
+    → n ≡ position_or_len (same_spot t) (map spot_of new)
+place_number ks new k t n e f h =
+    h ∙ spot_position ks k ∙ ap (λ s. position_or_len (same_spot s) (map spot_of ks)) f ∙ sym (position_inserted (map spot_of ks) t)
+    ∙ ap (position_or_len (same_spot t)) (sym (place_put ks new k t e f))
+
+abbrev edge_of : Cube → ℕ → Bool → Edge
+edge_of cube next marked = record { cube = cube; next = next; marked = marked }
+
+pub edge_is : (literals : List Literal) (untils : List ℕ) (spots : List Spot) (level : ℕ) (c : CoverSets) (cube : Cube) (next : ℕ) (marked : Bool)
+    → cube ≡ cube_in literals c.literals → next ≡ position_or_len (same_spot (target untils level c)) spots → marked ≡ is_marked untils level c
+    → edge_of cube next marked ≡ edge_in literals untils spots level c
+edge_is literals untils spots level c cube next marked e f g =
+    ap (λ x. edge_of x next marked) e ∙ ap (λ x. edge_of (cube_in literals c.literals) x marked) f ∙ ap (edge_of (cube_in literals c.literals) (position_or_len (same_spot (target untils level c)) spots)) g
+
+pub many_places : (ks new : List Place) (k : Place) (t : Spot) → new ≡ insert_key place_eq.eq-value.it ks k → spot_of k ≡ t → 4096 < length new → 4096 < length (insert_key same_spot (map spot_of ks) t)
+many_places ks new k t e f l =
+    let p : length (map spot_of new) ≡ length new = length-map new spot_of in
+    let q : length (insert_key same_spot (map spot_of ks) t) ≡ length (map spot_of new) = ap length (sym (place_put ks new k t e f)) in
+    omega arith

@@ -32,8 +32,3 @@ pub record WalkData : Type 0 where
   pub literals : List Literal
   pub untils : List ℕ
   pub signals : ℕ
-
-pub record IsWalk (literals : List Literal) (untils : List ℕ) (signals : ℕ) : Type 0 where
-  pub narrow : signals ≤ 64
-  pub literals_fit : AreLiterals signals literals
-  pub untils_fit : AreUntils untils

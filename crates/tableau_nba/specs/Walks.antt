@@ -9,7 +9,7 @@ use Rattle.word_core.specs.declared.automata.Edge.{Edge}
 use Rattle.word_core.specs.declared.cubes.Cube.{Cube}
 use Rattle.word_core.specs.Automaton.{AutomatonData}
 use Rattle.cover_sets.specs.Bits.{set_of}
-use Rattle.cover_sets.specs.Cover.{covers_in, table_of}
+use Rattle.cover_sets.specs.Cover.{TableData, covers_in, table_of}
 use Rattle.cover_sets.specs.Covers.{CoverSets, Row, node_at}
 use Rattle.cover_sets.specs.Numbers.{has}
 use Rattle.tableau_nba.specs.declared.cubes.Literal.{Literal}
@@ -45,8 +45,11 @@ literal_at n _ = []
 abbrev pub literals_in : List Node → List Literal
 literals_in nodes = flat_map (λ n. literal_at n (node_at nodes n)) (range_with_len 0 (length nodes))
 
+abbrev pub walker_of : TableData → List Literal → List ℕ → ℕ → WalkData
+walker_of table literals untils signals = record { table = table; literals = literals; untils = untils; signals = signals }
+
 abbrev pub walk_data : List Node → ℕ → WalkData
-walk_data nodes signals = record { table = table_of nodes; literals = literals_in nodes; untils = untils_in nodes; signals = signals }
+walk_data nodes signals = walker_of (table_of nodes) (literals_in nodes) (untils_in nodes) signals
 
 -- ---- the edge of a cover
 
@@ -74,25 +77,25 @@ with_literal cube l = record { care = bit_or cube.care (2 ^ l.signal); want = if
 abbrev pub cube_in : List Literal → ℕ → Cube
 cube_in literals set = fold (λ cube l. if has set l.number then with_literal cube l else cube) (record { care = 0; want = 0 }) literals
 
-abbrev pub edge_in : WalkData → List Spot → ℕ → CoverSets → Edge
-edge_in walker spots level c = record {
-  cube = cube_in walker.literals c.literals;
-  next = position_or_len (same_spot (target walker.untils level c)) spots;
-  marked = is_marked walker.untils level c;
+abbrev pub edge_in : List Literal → List ℕ → List Spot → ℕ → CoverSets → Edge
+edge_in literals untils spots level c = record {
+  cube = cube_in literals c.literals;
+  next = position_or_len (same_spot (target untils level c)) spots;
+  marked = is_marked untils level c;
 }
 
 abbrev pub same_edge : Edge → Edge → Bool
 same_edge a b = (nat_eq a.cube.care b.cube.care && nat_eq a.cube.want b.cube.want) && (nat_eq a.next b.next && beq a.marked b.marked)
 
 -- the different edges of these covers, in their order
-abbrev pub edges_in : WalkData → List Spot → ℕ → List CoverSets → List Edge
-edges_in walker spots level list = insert_all same_edge [] (map (edge_in walker spots level) list)
+abbrev pub edges_in : List Literal → List ℕ → List Spot → ℕ → List CoverSets → List Edge
+edges_in literals untils spots level list = insert_all same_edge [] (map (edge_in literals untils spots level) list)
 
 -- ---- the walk
 
 -- the places with those to which the covers lead
-abbrev pub grown : WalkData → ℕ → List CoverSets → List Spot → List Spot
-grown walker level list spots = insert_all same_spot spots (map (target walker.untils level) list)
+abbrev pub grown : List ℕ → ℕ → List CoverSets → List Spot → List Spot
+grown untils level list spots = insert_all same_spot spots (map (target untils level) list)
 
 pub data Outcome : Type 0 where
   found : List Spot → Outcome
@@ -102,7 +105,7 @@ pub data Outcome : Type 0 where
 -- behind a state whose set has this list of covers
 abbrev pub behind : (List Spot → Outcome) → WalkData → ℕ → List Spot → Row → Outcome
 behind rest walker level spots None = too_wide
-behind rest walker level spots (Some list) = if nat_le (length (grown walker level list spots)) 4096 then rest (grown walker level list spots) else too_many
+behind rest walker level spots (Some list) = if nat_le (length (grown walker.untils level list spots)) 4096 then rest (grown walker.untils level list spots) else too_many
 
 -- from the state with a number, if there is one
 abbrev pub from_state : (List Spot → Outcome) → WalkData → List Spot → Option Spot → Outcome
@@ -127,7 +130,7 @@ list_in (Some list) = list
 
 -- the edges of a state
 abbrev pub state_in : WalkData → List Spot → Spot → List Edge
-state_in walker spots s = edges_in walker spots s.level (list_in (covers_in walker.table s.set))
+state_in walker spots s = edges_in walker.literals walker.untils spots s.level (list_in (covers_in walker.table s.set))
 
 -- the automaton of these states
 abbrev pub automaton_in : WalkData → List Spot → AutomatonData
