@@ -1,14 +1,23 @@
 -- The states of a walk that were visited.
-use Rattle.std.proofs.Common.{◌≡◌, ℕ, zero, suc, ◌+◌, ◌-◌, ◌<◌, ◌≤◌, Bool, true, false, ◌&&◌, cond, nat_le, List, [], ◌∷◌, ◌++◌, length, map, get_or, take, drop, Option, Some, None, refl, sym, ap, ◌∙◌, subst, arith}
+use Rattle.std.proofs.Common.{◌≡◌, ℕ, zero, suc, ◌+◌, ◌-◌, ◌<◌, ◌≤◌, Bool, true, false, ◌&&◌, cond, nat_le, List, [], ◌∷◌, ◌++◌, length, map, get_or, take, drop, Option, Some, None, Result, Ok, Err, ◌^◌, refl, sym, ap, ◌∙◌, subst, arith}
 use Rattle.std.specs.Prelude.{slice_get}
 use Rattle.std.specs.List.{list_all}
 use Rattle.std.proofs.lemmas.Bool.{and_from, and_parts, le-leb, lt-leb}
-use Rattle.std.proofs.lemmas.List.{append-nil, length-append, map_push, take_all, take_more, take-append-le, get_or_append_left}
+use Rattle.std.proofs.lemmas.List.{append-nil, length-append, length-map, map_push, take_all, take_more, take-append-le, get_or_append_left}
 use Rattle.word_core.specs.declared.automata.Edge.{Edge}
 use Rattle.cover_sets.specs.Cover.{covers_in}
 use Rattle.cover_sets.specs.Covers.{CoverSets, Row}
 use Rattle.tableau_nba.specs.Tableau.{WalkData}
-use Rattle.tableau_nba.specs.Walks.{Outcome, Spot, all_spots, behind, edges_in, first_spot, found, from_state, grown, list_in, state_in, target, too_many, too_wide, walk}
+use Rattle.tableau_nba.specs.Walks.{Outcome, Spot, all_spots, behind, edges_in, first_spot, found, from_state, grown, list_in, spot_of, state_in, target, too_many, too_wide, walk}
+use Rattle.std.specs.Result.{IfErr, IsErrAnd}
+use Rattle.indexmap.specs.IndexSet.{insert_key}
+use Rattle.cover_sets.specs.Bits.{set_of}
+use Rattle.cover_sets.specs.declared.cover_lists.CoverError.{CoverError}
+use Rattle.cover_sets.specs.declared.cover_lists.CoverError.TheVariants.{TooWide as Wide}
+use Rattle.tableau_nba.specs.declared.tableaux.TableauError.{TableauError}
+use Rattle.tableau_nba.specs.declared.tableaux.TableauError.TheVariants.{TooManyStates, TooWide}
+use Rattle.tableau_nba.specs.contracts.places.PlacePartialEq.TheImpl as place_eq
+use Rattle.tableau_nba.specs.declared.places.Place.{Place}
 use Rattle.tableau_nba.proofs.Growing.{edges_kept, keys_behind, leads, leads_grown, leads_more}
 
 -- every edge of the first states leads to one of the places
@@ -139,3 +148,31 @@ walking_full walker root at spots states v l few =
       sym v.goes ∙ ap (λ n. walk walker n at spots) z ∙ walk_none walker at spots,
       v.are ∙ ap (map (state_in walker spots)) (take_all at spots (omega arith)),
     )
+
+-- ---- what the code reads
+
+pub some_spot : (keys : List Place) (at : ℕ) (p : Place) → Some p ≡ slice_get keys at → slice_get (map spot_of keys) at ≡ Some (spot_of p)
+some_spot [] at p h = absurd cc
+some_spot (k ∷ ks) zero p h = let e : p ≡ k = cc in ap (λ x. Some (spot_of x)) (sym e)
+some_spot (k ∷ ks) (suc at) p h = some_spot ks at p h
+
+pub no_spot : (keys : List Place) (at : ℕ) → None ≡ slice_get keys at → slice_get (map spot_of keys) at ≡ None
+no_spot [] at h = refl
+no_spot (k ∷ ks) zero h = absurd cc
+no_spot (k ∷ ks) (suc at) h = no_spot ks at h
+
+pub first_keys : (keys new : List Place) (p : Place) (root : ℕ) → keys ≡ [] → new ≡ insert_key place_eq.eq-value.it keys p → set_of p.set ≡ 2 ^ root → p.level ≡ 0 → map spot_of new ≡ first_spot root ∷ []
+first_keys keys new p root e h f g = ap (map spot_of) (h ∙ ap (λ ks. insert_key place_eq.eq-value.it ks p) e) ∙ ap (λ s. made s p.level ∷ []) f ∙ ap (λ l. made (2 ^ root) l ∷ []) g
+  where
+    made : ℕ → ℕ → Spot
+    made set level = record { set = set; level = level }
+
+pub cover_told : {T : Type 0} (r : Result T TableauError) (e : CoverError) (P : Type 0) → IsErrAnd r (λ t. (t ≡ TooWide → e ≡ Wide) × (t ≡ TooManyStates → ⊥)) → (e ≡ Wide → P) → IfErr r (λ t. t ≡ TooWide → P)
+cover_told (Ok t) e P h k = tt
+cover_told (Err x) e P h k = λ i. k (h.0 i)
+
+pub walking_begins : (walker : WalkData) (root : ℕ) (spots : List Spot) (states : List (List Edge)) → spots ≡ first_spot root ∷ [] → states ≡ [] → Walking walker root 0 spots states
+walking_begins walker root spots states e f = subst (Walking walker root 0 spots) (sym f) (walking_start walker root spots e)
+
+pub spots_few : (keys : List Place) → length keys ≤ 4096 → length (map spot_of keys) ≤ 4096
+spots_few keys l = let e : length (map spot_of keys) ≡ length keys = length-map keys spot_of in omega arith

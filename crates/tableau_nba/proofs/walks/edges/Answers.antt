@@ -56,4 +56,4 @@ returns-clause-places c =
 pub returns-clause-value : goal.returns-clause-value
 returns-clause-value c =
     let end : length (covers_of c.args.list.now) ≤ c.loop-cover.cover-index = omega (arith, length-map c.args.list.now sets_of) in
-    let a = c.in_ok-from_slice.ensures.items in let b = c.as_slice.ensures in ?
+    c.in_ok-from_slice.ensures.items ∙ c.as_slice.ensures.keys ∙ edges_all c.args.literals.now c.args.untils.now c.args.level (covers_of c.args.list.now) c.loop-cover.cover-index _ _ end c.loop-cover.invariant.4
