@@ -1,23 +1,21 @@
 -- The places of a walk, and the edges of its states, as they grow.
-use Rattle.std.proofs.Common.{◌≡◌, ℕ, zero, suc, ◌+◌, ◌-◌, ◌<◌, ◌≤◌, Bool, true, false, not, ◌&&◌, ◌||◌, cond, nat_eq, nat_le, List, [], ◌∷◌, ◌++◌, length, map, get_or, take, drop, Option, Some, None, Result, Ok, Err, refl, sym, ap, ◌∙◌, subst, arith}
-use Rattle.std.specs.Prelude.{fold, slice_get}
+use Rattle.std.proofs.Common.{◌≡◌, ℕ, ◌+◌, ◌<◌, ◌≤◌, Bool, true, false, not, ◌&&◌, ◌||◌, cond, List, [], ◌∷◌, ◌++◌, length, map, get_or, take, drop, Result, Ok, Err, refl, sym, ap, ◌∙◌, subst, arith}
+use Rattle.std.specs.Prelude.{fold}
 use Rattle.std.specs.List.{list_all, list_any, position_or_len}
 use Rattle.std.specs.Result.{IfErr, IsErrAnd}
-use Rattle.std.proofs.lemmas.Bool.{and_from, and_parts, le-leb, lt-leb}
-use Rattle.std.proofs.lemmas.List.{append-nil, append_assoc, take-append-drop, map-append, length-append, length-map, get_or-map, map_push, take_all, take_at, take_more, get_or_append_left, take-append-le}
+use Rattle.std.proofs.lemmas.Bool.{and_from, and_parts}
+use Rattle.std.proofs.lemmas.List.{append-nil, append_assoc, take-append-drop, map-append, length-append, get_or-map, map_push, take_all, take_more}
 use Rattle.indexmap.specs.IndexSet.{insert_key, insert_all}
 use Rattle.word_core.specs.declared.automata.Edge.{Edge}
 use Rattle.word_core.specs.contracts.automata.EdgePartialEq.TheImpl as edge_eq
-use Rattle.cover_sets.specs.Cover.{covers_in}
-use Rattle.cover_sets.specs.Covers.{CoverSets, Row}
+use Rattle.cover_sets.specs.Covers.{CoverSets}
 use Rattle.tableau_nba.specs.declared.cubes.Literal.{Literal}
 use Rattle.tableau_nba.specs.declared.tableaux.TableauError.{TableauError}
 use Rattle.tableau_nba.specs.declared.tableaux.TableauError.TheVariants.{TooManyStates, TooWide}
 use Rattle.cover_sets.specs.declared.bit_covers.BitCover.{BitCover}
 use Rattle.cover_sets.specs.Bits.{sets_of}
 use Rattle.cover_sets.specs.Union.{covers_of}
-use Rattle.tableau_nba.specs.Tableau.{WalkData}
-use Rattle.tableau_nba.specs.Walks.{Outcome, Spot, all_spots, cube_in, edge_in, edges_in, first_spot, is_marked, found, from_state, grown, list_in, same_edge, same_spot, state_in, target, too_many, too_wide, walk}
+use Rattle.tableau_nba.specs.Walks.{Spot, cube_in, edge_in, edges_in, is_marked, grown, same_edge, same_spot, target}
 use Rattle.tableau_nba.proofs.Spots.{edges_put, same_self}
 
 -- ---- one key more
@@ -119,7 +117,7 @@ pub grown_step : (untils : List ℕ) (level : ℕ) (list : List CoverSets) (i : 
 grown_step untils level list i d start old new l e f =
     f ∙ ap (λ ks. insert_key same_spot ks (target untils level (get_or list i d))) e
     ∙ sym (ap (λ cs. grown untils level cs start) (take_more list i d l) ∙ ap (insert_all same_spot start) (map_push (target untils level) (take i list) (get_or list i d))
-           ∙ fold_push (insert_key same_spot) start (map (target untils level) (take i list)) (target untils level (get_or list i d)))
+    ∙ fold_push (insert_key same_spot) start (map (target untils level) (take i list)) (target untils level (get_or list i d)))
 
 pub edges_step : (literals : List Literal) (untils : List ℕ) (level : ℕ) (list : List CoverSets) (i : ℕ) (d : CoverSets) (start old new : List Spot) (edges more : List Edge) (edge : Edge) → i < length list
     → old ≡ grown untils level (take i list) start → new ≡ insert_key same_spot old (target untils level (get_or list i d))
@@ -129,10 +127,10 @@ edges_step literals untils level list i d start old new edges more edge l e f g 
     let b = key_behind old (target untils level (get_or list i d)) in
     let leading : leads untils old level (take i list) ≡ true = subst (λ ks. leads untils ks level (take i list) ≡ true) (sym e) (leads_grown untils start level (take i list)) in
     let same : edges_in literals untils new level (take i list) ≡ edges_in literals untils old level (take i list) =
-        ap (λ ks. edges_in literals untils ks level (take i list)) (f ∙ b.1) ∙ edges_kept literals untils old b.0 level (take i list) leading in
+    ap (λ ks. edges_in literals untils ks level (take i list)) (f ∙ b.1) ∙ edges_kept literals untils old b.0 level (take i list) leading in
     k ∙ edges_put edges edge ∙ ap (λ es. insert_key same_edge es edge) (g ∙ sym same) ∙ ap (insert_key same_edge (edges_in literals untils new level (take i list))) h
     ∙ sym (ap (λ cs. edges_in literals untils new level cs) (take_more list i d l) ∙ ap (insert_all same_edge []) (map_push (edge_in literals untils new level) (take i list) (get_or list i d))
-           ∙ fold_push (insert_key same_edge) [] (map (edge_in literals untils new level) (take i list)) (edge_in literals untils new level (get_or list i d)))
+    ∙ fold_push (insert_key same_edge) [] (map (edge_in literals untils new level) (take i list)) (edge_in literals untils new level (get_or list i d)))
 
 pub grown_all : (untils : List ℕ) (level : ℕ) (list : List CoverSets) (i : ℕ) (start old : List Spot) → length list ≤ i → old ≡ grown untils level (take i list) start → old ≡ grown untils level list start
 grown_all untils level list i start old l e = e ∙ ap (λ cs. grown untils level cs start) (take_all i list l)
@@ -148,8 +146,8 @@ many_grown untils level list i d start old l e m =
     let all : List Spot = map (target untils level) list in
     let next : insert_key same_spot old (target untils level (get_or list i d)) ≡ grown untils level (take (i + 1) list) start = grown_step untils level list i d start old _ l e refl in
     let parts : grown untils level list start ≡ insert_all same_spot (grown untils level (take (i + 1) list) start) (map (target untils level) (drop (i + 1) list)) =
-        ap (λ cs. grown untils level cs start) (sym (take-append-drop (i + 1) list)) ∙ ap (insert_all same_spot start) (map-append (target untils level) (take (i + 1) list) (drop (i + 1) list))
-        ∙ fold_append (insert_key same_spot) start (map (target untils level) (take (i + 1) list)) (map (target untils level) (drop (i + 1) list)) in
+    ap (λ cs. grown untils level cs start) (sym (take-append-drop (i + 1) list)) ∙ ap (insert_all same_spot start) (map-append (target untils level) (take (i + 1) list) (drop (i + 1) list))
+    ∙ fold_append (insert_key same_spot) start (map (target untils level) (take (i + 1) list)) (map (target untils level) (drop (i + 1) list)) in
     let b = keys_behind (grown untils level (take (i + 1) list) start) (map (target untils level) (drop (i + 1) list)) in
     let whole : length (grown untils level list start) ≡ length (grown untils level (take (i + 1) list) start) + length b.0 = ap length (parts ∙ b.1) ∙ length-append _ b.0 in
     let first : length (insert_key same_spot old (target untils level (get_or list i d))) ≡ length (grown untils level (take (i + 1) list) start) = ap length next in

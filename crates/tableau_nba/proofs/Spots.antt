@@ -1,14 +1,14 @@
 -- Keys of sets, as they are kept and as they are seen.
-use Rattle.std.proofs.Common.{◌≡◌, ℕ, zero, suc, ◌+◌, ◌*◌, ◌^◌, ◌<◌, ◌≤◌, Bool, true, false, not, ◌&&◌, ◌||◌, cond, nat_eq, nat_lt, eqb, List, [], ◌∷◌, ◌++◌, length, map, get_or, Option, Some, None, refl, sym, ap, ◌∙◌, subst, arith}
-use Rattle.std.specs.List.{filter, flat_map, range_with_len, list_any, position, position_or_len, prefix_len}
+use Rattle.std.proofs.Common.{◌≡◌, ℕ, suc, ◌+◌, ◌*◌, ◌^◌, ◌<◌, ◌≤◌, Bool, true, false, not, ◌&&◌, ◌||◌, cond, nat_eq, nat_lt, eqb, List, [], ◌∷◌, ◌++◌, length, map, get_or, Some, None, refl, sym, ap, ◌∙◌, subst, arith}
+use Rattle.std.specs.List.{filter, flat_map, range_with_len, list_any, position, position_or_len}
 use Rattle.std.specs.Prelude.{All}
-use Rattle.std.proofs.lemmas.Bool.{both_ways, eq-eqb, eqb-false, eqb-true, ltb-false, ltb-true}
+use Rattle.std.proofs.lemmas.Bool.{eq-eqb, eqb-false, eqb-true, ltb-false, ltb-true}
 use Rattle.std.proofs.lemmas.List.{append-nil, get_or_at, get_or_append_left, map_push, length-map, length_push}
 use Rattle.std.proofs.lemmas.List.Concat.{flat_map-append}
 use Rattle.std.proofs.lemmas.List.Elements.{All-head, All-tail, filter-append}
 use Rattle.tableau_nba.proofs.Ranges.{range_split}
 use Rattle.std.proofs.lemmas.Nat.{same_from_place}
-use Rattle.indexmap.specs.IndexSet.{insert_key, insert_all}
+use Rattle.indexmap.specs.IndexSet.{insert_key}
 use Rattle.cover_sets.specs.contracts.number_sets.NumberSetPartialEq.TheImpl as set_eq
 use Rattle.cover_sets.specs.declared.number_sets.NumberSet.{NumberSet}
 use Rattle.cover_sets.specs.Bits.{set_of}
@@ -23,7 +23,7 @@ use Rattle.ltl_form.specs.declared.normals.Node.{Node}
 use Rattle.ltl_form.specs.declared.normals.Node.TheVariants.{True, False, Lit, And, Or, Next, Until, Release}
 use Rattle.ltl_form.specs.Normal.{IsLiteralBelow}
 use Rattle.tableau_nba.specs.declared.cubes.Literal.{Literal}
-use Rattle.tableau_nba.specs.Walks.{Spot, cube_in, edge_in, edges_in, grown, is_marked, literal_at, same_edge, same_spot, spot_of, target}
+use Rattle.tableau_nba.specs.Walks.{Spot, cube_in, edge_in, is_marked, literal_at, same_edge, same_spot, spot_of, target}
 use Rattle.cover_sets.specs.Cover.{TableData, covers_in}
 use Rattle.cover_sets.specs.Union.{covers_of}
 use Rattle.cover_sets.specs.declared.bit_covers.BitCover.{BitCover}
@@ -38,6 +38,7 @@ position_found p (x ∷ xs) d l = go (p x) refl l (λ k. position_found p xs d k
   where
     one : 1 + position_or_len p xs ≡ suc (position_or_len p xs)
     one = omega arith
+
     go : (b : Bool) → p x ≡ b → cond (not b) (1 + position_or_len p xs) 0 < suc (length xs) → (position_or_len p xs < length xs → p (get_or xs (position_or_len p xs) d) ≡ true)
         → p (get_or (x ∷ xs) (cond (not b) (1 + position_or_len p xs) 0) d) ≡ true
     go true e k rec = e

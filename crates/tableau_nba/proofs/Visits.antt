@@ -1,14 +1,14 @@
 -- The states of a walk that were visited.
-use Rattle.std.proofs.Common.{◌≡◌, ℕ, zero, suc, ◌+◌, ◌-◌, ◌<◌, ◌≤◌, Bool, true, false, ◌&&◌, cond, nat_le, List, [], ◌∷◌, ◌++◌, length, map, get_or, take, drop, Option, Some, None, Result, Ok, Err, ◌^◌, refl, sym, ap, ◌∙◌, subst, arith}
+use Rattle.std.proofs.Common.{◌≡◌, ℕ, zero, suc, ◌+◌, ◌-◌, ◌<◌, ◌≤◌, Bool, true, cond, List, [], ◌∷◌, ◌++◌, length, map, get_or, take, Some, None, Result, Ok, Err, ◌^◌, refl, sym, ap, ◌∙◌, subst, arith}
 use Rattle.std.specs.Prelude.{slice_get}
 use Rattle.std.specs.List.{list_all}
 use Rattle.std.proofs.lemmas.Bool.{and_from, and_parts, le-leb, lt-leb}
-use Rattle.std.proofs.lemmas.List.{append-nil, length-append, length-map, map_push, take_all, take_more, take-append-le, get_or_append_left}
+use Rattle.std.proofs.lemmas.List.{length-append, length-map, map_push, take_all, take_more, take-append-le, get_or_append_left}
 use Rattle.word_core.specs.declared.automata.Edge.{Edge}
 use Rattle.cover_sets.specs.Cover.{covers_in}
-use Rattle.cover_sets.specs.Covers.{CoverSets, Row}
+use Rattle.cover_sets.specs.Covers.{CoverSets}
 use Rattle.tableau_nba.specs.Tableau.{WalkData}
-use Rattle.tableau_nba.specs.Walks.{Outcome, Spot, all_spots, behind, edges_in, first_spot, found, from_state, grown, list_in, spot_of, state_in, target, too_many, too_wide, walk}
+use Rattle.tableau_nba.specs.Walks.{Spot, all_spots, behind, edges_in, first_spot, found, from_state, grown, list_in, spot_of, state_in, target, too_many, too_wide, walk}
 use Rattle.std.specs.Result.{IfErr, IsErrAnd}
 use Rattle.indexmap.specs.IndexSet.{insert_key}
 use Rattle.cover_sets.specs.Bits.{set_of}
@@ -79,14 +79,14 @@ module _ (walker : WalkData) (root at : ℕ) (spots : List Spot) (states : List 
   pub walk_many : (list : List CoverSets) → covers_in walker.table s.set ≡ Some list → 4096 < length (grown walker.untils s.level list spots) → all_spots walker root ≡ too_many
   walk_many list e m =
       sym (sym (walk_on walker (4096 - (at + 1)) at spots s h ∙ ap (behind (walk walker (4096 - (at + 1)) (at + 1)) walker s.level spots) e
-                ∙ ap (λ b. cond b (walk walker (4096 - (at + 1)) (at + 1) (grown walker.untils s.level list spots)) too_many) (lt-leb (length (grown walker.untils s.level list spots)) 4096 m))
-           ∙ here)
+      ∙ ap (λ b. cond b (walk walker (4096 - (at + 1)) (at + 1) (grown walker.untils s.level list spots)) too_many) (lt-leb (length (grown walker.untils s.level list spots)) 4096 m))
+      ∙ here)
 
   walk_next : (list : List CoverSets) → covers_in walker.table s.set ≡ Some list → length (grown walker.untils s.level list spots) ≤ 4096
       → walk walker (4096 - (at + 1)) (at + 1) (grown walker.untils s.level list spots) ≡ all_spots walker root
   walk_next list e m =
       sym (walk_on walker (4096 - (at + 1)) at spots s h ∙ ap (behind (walk walker (4096 - (at + 1)) (at + 1)) walker s.level spots) e
-           ∙ ap (λ b. cond b (walk walker (4096 - (at + 1)) (at + 1) (grown walker.untils s.level list spots)) too_many) (le-leb (length (grown walker.untils s.level list spots)) 4096 m))
+      ∙ ap (λ b. cond b (walk walker (4096 - (at + 1)) (at + 1) (grown walker.untils s.level list spots)) too_many) (le-leb (length (grown walker.untils s.level list spots)) 4096 m))
       ∙ here
 
   within : at < length spots
@@ -117,10 +117,10 @@ module _ (walker : WalkData) (root at : ℕ) (spots : List Spot) (states : List 
       let b = keys_behind spots (map (target walker.untils s.level) list) in
       let ext : new ≡ spots ++ b.0 = g ∙ b.1 in
       let firsts : take (at + 1) new ≡ take at spots ++ s ∷ [] =
-          ap (take (at + 1)) ext ∙ take_more (spots ++ b.0) at s (omega (arith, within, length-append spots b.0)) ∙ ap (λ xs. xs ++ get_or (spots ++ b.0) at s ∷ []) (first_same b.0) ∙ ap (λ x. take at spots ++ x ∷ []) (at_same b.0) in
+      ap (take (at + 1)) ext ∙ take_more (spots ++ b.0) at s (omega (arith, within, length-append spots b.0)) ∙ ap (λ xs. xs ++ get_or (spots ++ b.0) at s ∷ []) (first_same b.0) ∙ ap (λ x. take at spots ++ x ∷ []) (at_same b.0) in
       let own : state_in walker new s ≡ edges = ap (λ row. edges_in walker.literals walker.untils new s.level (list_in row)) e ∙ sym k in
       let leading : leads walker.untils new s.level (list_in (covers_in walker.table s.set)) ≡ true =
-          ap (λ row. leads walker.untils new s.level (list_in row)) e ∙ ap (λ ss. leads walker.untils ss s.level list) g ∙ leads_grown walker.untils spots s.level list in
+      ap (λ row. leads walker.untils new s.level (list_in row)) e ∙ ap (λ ss. leads walker.untils ss s.level list) g ∙ leads_grown walker.untils spots s.level list in
       record {
         room = omega arith;
         goes = ap (walk walker (4096 - (at + 1)) (at + 1)) g ∙ walk_next list e (subst (λ ss. length ss ≤ 4096) g m);
@@ -130,7 +130,7 @@ module _ (walker : WalkData) (root at : ℕ) (spots : List Spot) (states : List 
         lead =
             ap (all_lead walker new) firsts
             ∙ all_pushed (λ (f : Spot). leads walker.untils new f.level (list_in (covers_in walker.table f.set))) (take at spots) s
-              (ap (λ ss. all_lead walker ss (take at spots)) ext ∙ lead_kept b.0 (take at spots) v.lead) leading;
+            (ap (λ ss. all_lead walker ss (take at spots)) ext ∙ lead_kept b.0 (take at spots) v.lead) leading;
       }
 
 -- the walk ends where there is no further state

@@ -1,8 +1,8 @@
 -- Tableaus: states are sets of formulas with levels, numbered breadth first.
-use Rattle.std.specs.Prelude.{ℕ, zero, suc, ◌+◌, ◌^◌, Bool, true, false, not, ◌&&◌, if◌then◌else◌, nat_eq, nat_le, bit_or, List, [], ◌∷◌, length, map, fold, drop, Option, Some, None, slice_get}
+use Rattle.std.specs.Prelude.{ℕ, zero, suc, ◌+◌, ◌^◌, Bool, true, false, ◌&&◌, if◌then◌else◌, nat_eq, nat_le, bit_or, List, [], ◌∷◌, length, map, fold, drop, Option, Some, None, slice_get}
 use Rattle.std.specs.List.{filter, flat_map, position_or_len, range_with_len}
 use mathlib.Core.Bool.{beq}
-use Rattle.indexmap.specs.IndexSet.{insert_key, insert_all}
+use Rattle.indexmap.specs.IndexSet.{insert_all}
 use Rattle.ltl_form.specs.declared.normals.Node.{Node}
 use Rattle.ltl_form.specs.declared.normals.Node.TheVariants.{Lit, Until}
 use Rattle.word_core.specs.declared.automata.Edge.{Edge}

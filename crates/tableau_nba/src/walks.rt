@@ -54,7 +54,15 @@ pub fn states_from(
         };
         let place = *place;
         let list = lists.place_of(alloc, table, &place.set)?;
-        let edges = edges(alloc, literals, untils, signals, place.level, lists.at(list), &mut places)?;
+        let edges = edges(
+            alloc,
+            literals,
+            untils,
+            signals,
+            place.level,
+            lists.at(list),
+            &mut places,
+        )?;
         states.push(State { edges })?;
     }
     Ok(states)

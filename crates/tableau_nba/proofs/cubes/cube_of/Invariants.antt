@@ -1,6 +1,5 @@
-use Rattle.std.proofs.Common.{◌≡◌, fold, take, drop}
+use Rattle.std.proofs.Common.{◌≡◌, take}
 use Rattle.word_core.specs.Cube.{IsCube}
-use Rattle.word_core.specs.declared.cubes.Cube.{Cube}
 use Rattle.cover_sets.specs.Bits.{set_of}
 use Rattle.tableau_nba.specs.Walks.{cube_in}
 use Rattle.tableau_nba.proofs.cubes.cube_of.Given as goal

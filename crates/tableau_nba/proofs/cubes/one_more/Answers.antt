@@ -1,7 +1,6 @@
-use Rattle.std.proofs.Common.{◌≡◌, ◌<◌, ◌*◌, ◌^◌, ◌%◌, ℕ, ap, arith, cond, inl, inr, sym, ◌∙◌}
+use Rattle.std.proofs.Common.{◌*◌, ◌^◌, ◌%◌, ap, arith, cond, inl, inr, sym, ◌∙◌}
 use Rattle.std.specs.Prelude.{bit_or}
-use Rattle.word_core.specs.declared.cubes.Cube.{Cube}
-use Rattle.tableau_nba.proofs.CubeBits.{cube_is, one_bit, signal_bit, cube_more}
+use Rattle.tableau_nba.proofs.CubeBits.{cube_is, signal_bit, cube_more}
 use Rattle.tableau_nba.proofs.cubes.one_more.Goals as goal
 use Rattle.tableau_nba.proofs.cubes.one_more.Goals.{then-literal, else-literal}
 
@@ -11,9 +10,9 @@ returns-clause-value c =
     let l = c.args.literal.now in
     cube_is cube l c.if-literal.want (omega (arith, c.requires.literal, c.requires.signals))
     (elim c.if-literal.branch [
-         then-literal w ↦ w.want-is ∙ ap (λ b. cond b (bit_or cube.want ((1 * 2 ^ l.signal) % 2 ^ 64)) cube.want) (sym w.if-literal.true)
-       | else-literal w ↦ w.want-is ∙ ap (λ b. cond b (bit_or cube.want ((1 * 2 ^ l.signal) % 2 ^ 64)) cube.want) (sym w.if-literal.false)
-       ])
+      | then-literal w ↦ w.want-is ∙ ap (λ b. cond b (bit_or cube.want ((1 * 2 ^ l.signal) % 2 ^ 64)) cube.want) (sym w.if-literal.true)
+      | else-literal w ↦ w.want-is ∙ ap (λ b. cond b (bit_or cube.want ((1 * 2 ^ l.signal) % 2 ^ 64)) cube.want) (sym w.if-literal.false)
+    ])
 
 pub returns-clause-cube : goal.returns-clause-cube
 returns-clause-cube c =

@@ -1,4 +1,4 @@
-use Rattle.std.proofs.Common.{◌≡◌, ◌<◌, ◌≤◌, arith, ap, subst, sym, length, map, All, ◌∙◌}
+use Rattle.std.proofs.Common.{◌<◌, ◌≤◌, arith, ap, subst, sym, length, map, All, ◌∙◌}
 use Rattle.std.proofs.lemmas.List.{length-map}
 use Rattle.indexmap.specs.IndexSet.{index_set_len, insert_key}
 use Rattle.word_core.specs.Automaton.{IsEdge}
@@ -46,7 +46,7 @@ returns-in_err-edge-clause-many c =
     let l : i < length list = omega (arith, length-map c.args.list.now sets_of) in
     err_many c.from_residual.result c.in_err-edge.field-0.0 _ c.from_residual.ensures.1
     (λ e. many_grown untils level list i (sets_of c.cover-item.result) (map spot_of c.args.places.now.keys) old l c.loop-cover.invariant.3
-        (subst (λ y. 4096 < length (insert_key same_spot old (target untils level y))) read (c.in_err-edge.ensures.many e)))
+    (subst (λ y. 4096 < length (insert_key same_spot old (target untils level y))) read (c.in_err-edge.ensures.many e)))
 
 pub returns-clause-places : goal.returns-clause-places
 returns-clause-places c =

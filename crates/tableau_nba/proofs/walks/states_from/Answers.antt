@@ -1,10 +1,5 @@
-use Rattle.std.proofs.Common.{◌≡◌, ◌≤◌, ◌<◌, Some, [], All, length, map, arith, ap, refl, rules, sym, subst, ◌∙◌}
-use Rattle.std.proofs.lemmas.List.{length-map}
-use Rattle.std.proofs.lemmas.List.Elements.{All-nil}
-use Rattle.indexmap.specs.IndexSet.{index_set_len}
-use Rattle.word_core.specs.Automaton.{IsEdge}
+use Rattle.std.proofs.Common.{Some, map, arith, ap, refl, rules, sym, ◌∙◌}
 use Rattle.cover_sets.specs.Union.{covers_of}
-use Rattle.tableau_nba.specs.Tableau.{AreCovers}
 use Rattle.tableau_nba.specs.Walks.{spot_of, walker_of}
 use Rattle.tableau_nba.proofs.Edges.{visited_more}
 use Rattle.tableau_nba.proofs.Growing.{err_many}
@@ -35,21 +30,21 @@ pub returns-in_err-list-clause-wide : goal.returns-in_err-list-clause-wide
 returns-in_err-list-clause-wide c =
     cover_told c.from_residual-in_err-list.result c.in_err-list.field-0.0 _ c.from_residual-in_err-list.ensures.1
     (λ e. walk_wide (walker_of c.args.table.now c.args.literals.now c.args.untils.now c.args.signals) c.args.root c.loop-at.at (map spot_of c.loop-at.places.keys) c.loop-at.states.items c.loop-at.invariant.2
-        (spot_of c.in-Some.place.now) (some_spot c.loop-at.places.keys c.loop-at.at c.in-Some.place.now c.in-Some.ensures.key) (omega arith) (c.in_err-list.ensures.wide e))
+    (spot_of c.in-Some.place.now) (some_spot c.loop-at.places.keys c.loop-at.at c.in-Some.place.now c.in-Some.ensures.key) (omega arith) (c.in_err-list.ensures.wide e))
 
 pub returns-in_err-edges-clause-many : goal.returns-in_err-edges-clause-many
 returns-in_err-edges-clause-many c =
     err_many c.from_residual-in_err-edges.result c.in_err-edges.field-0.0 _ c.from_residual-in_err-edges.ensures.1
     (λ e. walk_many (walker_of c.args.table.now c.args.literals.now c.args.untils.now c.args.signals) c.args.root c.loop-at.at (map spot_of c.loop-at.places.keys) c.loop-at.states.items c.loop-at.invariant.2
-        (spot_of c.in-Some.place.now) (some_spot c.loop-at.places.keys c.loop-at.at c.in-Some.place.now c.in-Some.ensures.key) (omega arith) (covers_of c.at.result.now)
-        (c.in_ok-list.ensures.value ∙ ap (λ xs. Some (covers_of xs)) (sym c.at.ensures)) (c.in_err-edges.ensures.many e))
+    (spot_of c.in-Some.place.now) (some_spot c.loop-at.places.keys c.loop-at.at c.in-Some.place.now c.in-Some.ensures.key) (omega arith) (covers_of c.at.result.now)
+    (c.in_ok-list.ensures.value ∙ ap (λ xs. Some (covers_of xs)) (sym c.at.ensures)) (c.in_err-edges.ensures.many e))
 
 pub returns-clause-value : goal.returns-clause-value
 returns-clause-value c =
     let walker = walker_of c.args.table.now c.args.literals.now c.args.untils.now c.args.signals in
     let spots = map spot_of c.loop-at.places.keys in
     elim c.loop-at-test.branch [
-      else-loop-at-test w ↦ let r = walking_full walker c.args.root c.loop-at.at spots c.loop-at.states.items c.loop-at.invariant.2 (omega (arith, w.loop-at-test.false)) (spots_few c.loop-at.places.keys (omega (arith, c.loop-at.invariant.0.few))) in (spots, r.0, r.1)
-    | then-loop-at-test+in_default w ↦
-        let r = walking_found walker c.args.root c.loop-at.at spots c.loop-at.states.items c.loop-at.invariant.2 (no_spot c.loop-at.places.keys c.loop-at.at w.in_default.ensures.key) in (spots, r.0, r.1)
+      | else-loop-at-test w ↦ let r = walking_full walker c.args.root c.loop-at.at spots c.loop-at.states.items c.loop-at.invariant.2 (omega (arith, w.loop-at-test.false)) (spots_few c.loop-at.places.keys (omega (arith, c.loop-at.invariant.0.few))) in (spots, r.0, r.1)
+      | then-loop-at-test+in_default w ↦
+          let r = walking_found walker c.args.root c.loop-at.at spots c.loop-at.states.items c.loop-at.invariant.2 (no_spot c.loop-at.places.keys c.loop-at.at w.in_default.ensures.key) in (spots, r.0, r.1)
     ]

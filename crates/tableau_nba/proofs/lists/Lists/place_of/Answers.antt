@@ -10,7 +10,7 @@ pub returns-in-Some-clause-value : goal.returns-in-Some-clause-value
 returns-in-Some-clause-value c =
     subst (λ (l : ListsData). covers_in c.args.table.now (set_of c.args.set.now) ≡ Some (covers_of (get_or l.lists c.in-Some.at []))) c.self.view_is
     (covers_known c.args.table.now c.self.inside.sets.keys c.self.inside.lists.items c.args.set.now c.in-Some.at (subst (λ (l : ListsData). AreCovers c.args.table.now l.sets l.lists) (sym c.self.view_is) c.requires)
-        c.in-Some.ensures.index)
+    c.in-Some.ensures.index)
 
 pub returns-clause-covers : goal.returns-clause-covers
 returns-clause-covers c =
