@@ -1,12 +1,16 @@
 //! Covers of sets of formulas, as lists of numbers.
 
-ghost use Rattle.std.specs.Prelude.{◌≡◌, ◌<◌, ◌≤◌, ◌+◌, length, All};
-ghost use Rattle.cover_sets.specs.declared.cover_lists.CoverError.TheVariants.{Memory};
+ghost use Rattle.std.specs.Prelude.{◌≡◌, ◌<◌, ◌≤◌, length, All, IfOk, IfErr, Some, None, option_map, map};
+ghost use Rattle.cover_sets.specs.Bits.{sets_of};
+ghost use Rattle.cover_sets.specs.Cover.{covers_in, lists_of, set_from, table_of};
+ghost use Rattle.cover_sets.specs.Numbers.{joined};
+ghost use Rattle.cover_sets.specs.Union.{covers_of};
+ghost use Rattle.cover_sets.specs.declared.cover_lists.CoverError.TheVariants.{Memory, TooWide};
 
 use crate::bit_covers::BitCover;
 use crate::number_sets::NumberSet;
 use crate::tables::CoverTable;
-use ltl_form::Normal;
+use ltl_form::{Node, Normal};
 use std::alloc::{AllocError, AllocFailed, Global};
 use std::marker::Model;
 use thiserror::Error;
@@ -60,26 +64,46 @@ impl<T: Drop> From<AllocFailed<T>> for CoverError {
 /// that the recursion reaches, or of a prefix of the set, is longer than 1,024.
 pub fn covers(alloc: Global, f: &Normal, set: &[u32]) -> Result<Vec<Cover>, CoverError>
     requires { All (λ n. n < length f.now.nodes) set.now }
+    ensures value { IfOk result (λ list. option_map (map lists_of) (covers_in (table_of f.now.nodes) (set_from set.now)) ≡ Some list.items) }
+    ensures wide { IfErr result (λ e. e ≡ TooWide → covers_in (table_of f.now.nodes) (set_from set.now) ≡ None) }
 {
     let table = CoverTable::new(alloc, f)?;
+    let members = set_of(f.nodes(), set);
+    let list = table.of_set(alloc, &members)?;
+    Ok(as_lists(alloc, &list)?)
+}
+
+/// The set of these numbers.
+fn set_of(nodes: &[Node], numbers: &[u32]) -> NumberSet
+    requires few { length nodes.now ≤ 512 }
+    requires below { All (λ n. n < length nodes.now) numbers.now }
+    ensures { joined result.words ≡ set_from numbers.now }
+{
     let mut members = NumberSet::EMPTY;
-    for n in set {
+    for n in numbers {
         members = members.with(*n);
     }
+    members
+}
+
+/// Each cover as lists.
+fn as_lists(alloc: Global, covers: &[BitCover]) -> Result<Vec<Cover>, AllocError>
+    ensures { IfOk result (λ list. list.items ≡ map lists_of (covers_of covers.now)) }
+{
     let mut lists = Vec::new(alloc);
-    for cover in &table.of_set(alloc, &members)? {
-        lists.push(lists_of(alloc, cover, f.nodes().len())?)?;
+    for cover in covers {
+        lists.push(as_list(alloc, cover)?)?;
     }
     Ok(lists)
 }
 
-/// The three sets as lists of the numbers below `bound`.
-fn lists_of(alloc: Global, cover: &BitCover, bound: usize) -> Result<Cover, AllocError>
-    requires { bound ≤ 512 }
+/// The three sets as ascending lists.
+fn as_list(alloc: Global, cover: &BitCover) -> Result<Cover, AllocError>
+    ensures { IfOk result (λ list. list ≡ lists_of (sets_of cover.now)) }
 {
     Ok(Cover {
-        literals: cover.literals.to_list(alloc, bound)?,
-        next: cover.next.to_list(alloc, bound)?,
-        postponed: cover.postponed.to_list(alloc, bound)?,
+        literals: cover.literals.to_list(alloc)?,
+        next: cover.next.to_list(alloc)?,
+        postponed: cover.postponed.to_list(alloc)?,
     })
 }

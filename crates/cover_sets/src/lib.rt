@@ -3,6 +3,7 @@
 
 mod bit_covers;
 mod cover_lists;
+mod laws;
 mod number_sets;
 mod reductions;
 mod rows;
@@ -10,5 +11,6 @@ mod tables;
 
 pub use bit_covers::BitCover;
 pub use cover_lists::{Cover, CoverError, covers};
+pub use laws::reduced_is_exact;
 pub use number_sets::NumberSet;
 pub use tables::CoverTable;

@@ -1,6 +1,9 @@
 //! Sets of numbers of formulas, as bits.
 
-ghost use Rattle.std.specs.Prelude.{◌≡◌, ◌<◌, ◌≤◌, ◌+◌, length};
+ghost use Rattle.std.specs.Prelude.{◌≡◌, ◌≢◌, ◌<◌, ◌≤◌, ◌+◌, ◌*◌, ◌^◌, ℕ, length, not, nat_eq, nat_le, bit_and, bit_or, slice_index, IfOk};
+ghost use Rattle.std.specs.Int.RustNames.{count_ones};
+ghost use Rattle.std.proofs.Props.{props};
+ghost use Rattle.cover_sets.specs.Numbers.{AreWords, has, is_part, joined, numbers_of, or_all, set_cmp};
 
 use std::alloc::{AllocError, Global};
 use std::cmp::Ordering;
@@ -9,6 +12,7 @@ use std::cmp::Ordering;
 #[derive(Debug, Clone, Copy, PartialEq, Eq, Hash)]
 pub struct NumberSet {
     words: [u64; 8],
+    ghost fit: { AreWords words } by { Prim.hlevel props },
 }
 
 impl NumberSet {
@@ -18,6 +22,7 @@ impl NumberSet {
     /// The set with one more number.
     pub fn with(&self, n: u32) -> NumberSet
         requires { n < 512 }
+        ensures { joined result.words ≡ bit_or (joined self.now.words) (2 ^ n) }
     {
         let mut words = self.words;
         words[(n / 64) as usize] |= 1 << (n % 64);
@@ -27,12 +32,15 @@ impl NumberSet {
     /// Whether the number is in the set.
     pub fn contains(&self, n: u32) -> bool
         requires { n < 512 }
+        ensures { result ≡ has (joined self.now.words) n }
     {
         self.words[(n / 64) as usize] >> (n % 64) & 1 == 1
     }
 
     /// The numbers of both sets.
-    pub fn join(&self, other: &NumberSet) -> NumberSet {
+    pub fn join(&self, other: &NumberSet) -> NumberSet
+        ensures { joined result.words ≡ bit_or (joined self.now.words) (joined other.now.words) }
+    {
         let mut words = self.words;
         for i in 0..8 {
             words[i] |= other.words[i];
@@ -41,18 +49,23 @@ impl NumberSet {
     }
 
     /// Whether some number is in both sets.
-    pub fn meets(&self, other: &NumberSet) -> bool {
-        let mut shared = 0;
+    pub fn meets(&self, other: &NumberSet) -> bool
+        ensures { result ≡ not (nat_eq (bit_and (joined self.now.words) (joined other.now.words)) 0) }
+    {
         for i in 0..8 {
-            shared |= self.words[i] & other.words[i];
+            if self.words[i] & other.words[i] != 0 {
+                return true;
+            }
         }
-        shared != 0
+        false
     }
 
     /// Whether each number of this set is in the other one.
-    pub fn is_part_of(&self, other: &NumberSet) -> bool {
+    pub fn is_part_of(&self, other: &NumberSet) -> bool
+        ensures { result ≡ is_part (joined self.now.words) (joined other.now.words) }
+    {
         for i in 0..8 {
-            if self.words[i] & !other.words[i] != 0 {
+            if self.words[i] & other.words[i] != self.words[i] {
                 return false;
             }
         }
@@ -61,7 +74,8 @@ impl NumberSet {
 
     /// How many numbers are in one of the two sets.
     pub fn size_with(&self, other: &NumberSet) -> u32
-        ensures { result ≤ 512 }
+        ensures value { result ≡ count_ones (bit_or (joined self.now.words) (joined other.now.words)) }
+        ensures small { result ≤ 512 }
     {
         let mut size = 0;
         for i in 0..8 {
@@ -71,7 +85,9 @@ impl NumberSet {
     }
 
     /// All words in one, so that a part of the set gives a part of the bits.
-    pub fn folded(&self) -> u64 {
+    pub fn folded(&self) -> u64
+        ensures { result ≡ or_all self.now.words }
+    {
         let mut bits = 0;
         for i in 0..8 {
             bits |= self.words[i];
@@ -80,7 +96,9 @@ impl NumberSet {
     }
 
     /// The order of the ascending lists of numbers, in which a list is before each longer one that it begins.
-    pub fn compare(&self, other: &NumberSet) -> Ordering {
+    pub fn compare(&self, other: &NumberSet) -> Ordering
+        ensures { result ≡ set_cmp (joined self.now.words) (joined other.now.words) }
+    {
         for i in 0..8 {
             if self.words[i] != other.words[i] {
                 return self.compare_from(other, i);
@@ -93,11 +111,13 @@ impl NumberSet {
     ///
     /// One of the sets has the first number that differs; it is before the other one where that has a later number.
     fn compare_from(&self, other: &NumberSet, i: usize) -> Ordering
-        requires { i < 8 }
+        requires place { i < 8 }
+        requires same { (k : ℕ) → k < i → slice_index self.now.words k ≡ slice_index other.now.words k }
+        requires differ { slice_index self.now.words i ≢ slice_index other.now.words i }
+        ensures { result ≡ set_cmp (joined self.now.words) (joined other.now.words) }
     {
-        let differ = self.words[i] ^ other.words[i];
-        let first = differ & differ.wrapping_neg();
-        if self.words[i] & first != 0 {
+        let first = (self.words[i] ^ other.words[i]).trailing_zeros();
+        if self.words[i] >> first & 1 == 1 {
             if other.goes_on(i, first) {
                 Ordering::Less
             } else {
@@ -112,22 +132,29 @@ impl NumberSet {
         }
     }
 
-    /// Whether the set has a number above the one that is the only bit of `first` in word `i`.
-    fn goes_on(&self, i: usize, first: u64) -> bool
-        requires { i < 8 }
+    /// Whether the set has a number above the bit `first` of word `i`.
+    fn goes_on(&self, i: usize, first: u32) -> bool
+        requires place { i < 8 }
+        requires bit { first < 64 }
+        ensures { result ≡ nat_le (2 ^ (i * 64 + first + 1)) (joined self.now.words) }
     {
-        if self.words[i] & !(first | first.wrapping_sub(1)) != 0 {
+        if self.words[i] >> first >> 1 != 0 {
             return true;
         }
-        self.words[i + 1..].iter().any(|word| *word != 0)
+        for k in i + 1..8 {
+            if self.words[k] != 0 {
+                return true;
+            }
+        }
+        false
     }
 
-    /// The numbers below `bound`, ascending.
-    pub fn to_list(&self, alloc: Global, bound: usize) -> Result<Vec<u32>, AllocError>
-        requires { bound ≤ 512 }
+    /// The numbers, ascending.
+    pub fn to_list(&self, alloc: Global) -> Result<Vec<u32>, AllocError>
+        ensures { IfOk result (λ list. list.items ≡ numbers_of (joined self.now.words)) }
     {
         let mut numbers = Vec::new(alloc);
-        for n in 0..bound as u32 {
+        for n in 0..512 {
             if self.contains(n) {
                 numbers.push(n)?;
             }
@@ -138,7 +165,8 @@ impl NumberSet {
 
 /// How many bits of a word are 1.
 fn ones(word: u64) -> u32
-    ensures { result ≤ 64 }
+    ensures value { result ≡ count_ones word }
+    ensures small { result ≤ 64 }
 {
     word.count_ones()
 }

@@ -1,6 +1,8 @@
 //! The covers of one formula.
 
-ghost use Rattle.std.specs.Prelude.{◌≡◌, ◌≤◌, length, IfOk, None, Some};
+ghost use Rattle.std.specs.Prelude.{◌≡◌, ◌≤◌, length, IfOk, IfErr, None, Some};
+ghost use Rattle.cover_sets.specs.Union.{covers_of};
+ghost use Rattle.cover_sets.specs.declared.cover_lists.CoverError.TheVariants.{TooWide};
 
 use crate::bit_covers::BitCover;
 use crate::cover_lists::CoverError;
@@ -14,29 +16,36 @@ pub struct Row {
 
 impl Model for Row {
     ghost use Rattle.std.specs.Prelude.{◌≤◌, List, Option, IfSome, option_map, length};
-    ghost use Rattle.cover_sets.specs.declared.bit_covers.BitCover.{BitCover};
+    ghost use Rattle.cover_sets.specs.Covers.{CoverSets};
+    ghost use Rattle.cover_sets.specs.Union.{covers_of};
 
-    ghost Value = { Option (List BitCover) };
+    ghost Value = { Option (List CoverSets) };
 
-    ghost view = { λ r. option_map (λ list. list.items) r.list };
+    ghost view = { λ r. option_map (λ list. covers_of list.items) r.list };
 
     ghost invariant = { λ r. IfSome r.list (λ list. length list.items ≤ 1024) };
 }
 
 impl Row {
-    pub const WIDE: Row = Row { list: None };
+    /// Too wide.
+    pub fn wide() -> Row
+        ensures { result ≡ None }
+    {
+        Row { list: None }
+    }
 
     pub fn new(list: Vec<BitCover>) -> Row
         requires { length list.items ≤ 1024 }
-        ensures { result ≡ Some list.items }
+        ensures { result ≡ Some (covers_of list.items) }
     {
         Row { list: Some(list) }
     }
 
     /// The list.
     pub fn list(&self) -> Result<&[BitCover], CoverError>
-        ensures value { IfOk result (λ list. self.now ≡ Some list.now) }
+        ensures value { IfOk result (λ list. self.now ≡ Some (covers_of list.now)) }
         ensures narrow { IfOk result (λ list. length list.now ≤ 1024) }
+        ensures wide { IfErr result (λ e. self.now ≡ None) }
     {
         match &self.list {
             Some(list) => Ok(list),

@@ -1,7 +1,9 @@
 -- What the walk of a tableau looks up.
-use Rattle.std.specs.Prelude.{ℕ, ◌<◌, ◌≤◌, List, length}
+use Rattle.std.specs.Prelude.{◌≡◌, ℕ, ◌<◌, ◌≤◌, List, [], length, slice_index_or, Some}
 use Rattle.std.specs.List.{All}
-use Rattle.cover_sets.specs.Cover.{TableData}
+use Rattle.cover_sets.specs.Cover.{TableData, covers_in}
+use Rattle.cover_sets.specs.Bits.{set_of}
+use Rattle.cover_sets.specs.Union.{covers_of}
 use Rattle.cover_sets.specs.declared.bit_covers.BitCover.{BitCover}
 use Rattle.cover_sets.specs.declared.number_sets.NumberSet.{NumberSet}
 use Rattle.tableau_nba.specs.declared.cubes.Literal.{Literal}
@@ -20,13 +22,13 @@ pub record ListsData : Type 0 where
   pub sets : List NumberSet
   pub lists : List (List BitCover)
 
+-- the covers of each set are those by a table
+pub record AreCovers (table : TableData) (sets : List NumberSet) (lists : List (List BitCover)) : Type 0 where
+  pub each : length sets ≡ length lists
+  pub are : (k : ℕ) (d : NumberSet) → k < length sets → covers_in table (set_of (slice_index_or sets k d)) ≡ Some (covers_of (slice_index_or lists k []))
+
 pub record WalkData : Type 0 where
   pub table : TableData
   pub literals : List Literal
   pub untils : List ℕ
   pub signals : ℕ
-
-pub record IsWalk (literals : List Literal) (untils : List ℕ) (signals : ℕ) : Type 0 where
-  pub narrow : signals ≤ 64
-  pub literals_fit : AreLiterals signals literals
-  pub untils_fit : AreUntils untils

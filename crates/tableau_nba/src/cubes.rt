@@ -2,7 +2,10 @@
 
 ghost use Rattle.std.specs.Prelude.{◌≡◌, ℕ, ◌<◌, ◌≤◌, length, All, IfOk};
 ghost use Rattle.ltl_form.specs.Normal.{LiteralsBelow};
+ghost use Rattle.cover_sets.specs.Bits.{set_of};
 ghost use Rattle.tableau_nba.specs.Tableau.{AreLiterals};
+ghost use Rattle.tableau_nba.specs.Walks.{cube_in, literal_at, literals_in, with_literal};
+ghost use Rattle.std.specs.Option.{option_to_list};
 ghost use Rattle.word_core.specs.Cube.{IsCube};
 
 use cover_sets::NumberSet;
@@ -22,16 +25,13 @@ pub struct Literal {
 pub fn literals_of(alloc: Global, nodes: &[Node], signals: u32) -> Result<Vec<Literal>, AllocError>
     requires literals { LiteralsBelow signals nodes.now }
     requires nodes { length nodes.now ≤ 512 }
-    ensures { IfOk result (λ literals. AreLiterals signals literals.items) }
+    ensures value { IfOk result (λ literals. literals.items ≡ literals_in nodes.now) }
+    ensures numbers { IfOk result (λ literals. AreLiterals signals literals.items) }
 {
     let mut literals = Vec::new(alloc);
     for (n, node) in nodes.iter().enumerate() {
-        if let Node::Lit { signal, positive } = *node {
-            literals.push(Literal {
-                number: n as u32,
-                signal,
-                positive,
-            })?;
+        if let Some(literal) = literal_of(n as u32, node) {
+            literals.push(literal)?;
         }
     }
     Ok(literals)
@@ -41,23 +41,25 @@ pub fn literals_of(alloc: Global, nodes: &[Node], signals: u32) -> Result<Vec<Li
 pub fn cube_of(literals: &[Literal], signals: u32, set: &NumberSet) -> Cube
     requires literals { AreLiterals signals literals.now }
     requires signals { signals ≤ 64 }
-    ensures { IsCube signals result }
+    ensures value { result ≡ cube_in literals.now (set_of set.now) }
+    ensures cube { IsCube signals result }
 {
     let mut cube = Cube { care: 0, want: 0 };
     for literal in literals {
         if set.contains(literal.number) {
-            cube = with_literal(&cube, literal, signals);
+            cube = one_more(&cube, literal, signals);
         }
     }
     cube
 }
 
 /// The letters of the cube that meet the literal, which takes the place of one of its signal.
-fn with_literal(cube: &Cube, literal: &Literal, signals: u32) -> Cube
+fn one_more(cube: &Cube, literal: &Literal, signals: u32) -> Cube
     requires cube { IsCube signals cube.now }
     requires literal { literal.now.signal < signals }
     requires signals { signals ≤ 64 }
-    ensures { IsCube signals result }
+    ensures value { result ≡ with_literal cube.now literal.now }
+    ensures cube { IsCube signals result }
 {
     let bit = 1 << literal.signal;
     let want = if literal.positive {
@@ -68,5 +70,19 @@ fn with_literal(cube: &Cube, literal: &Literal, signals: u32) -> Cube
     Cube {
         care: cube.care | bit,
         want,
+    }
+}
+
+/// The literal, if the formula is one.
+fn literal_of(number: u32, node: &Node) -> Option<Literal>
+    ensures { option_to_list result ≡ literal_at number node.now }
+{
+    match *node {
+        Node::Lit { signal, positive } => Some(Literal {
+            number,
+            signal,
+            positive,
+        }),
+        _ => None,
     }
 }

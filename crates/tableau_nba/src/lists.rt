@@ -1,6 +1,11 @@
 //! The covers of the sets that were met.
 
-ghost use Rattle.std.specs.Prelude.{◌≡◌, ◌<◌, ◌≤◌, length, IfOk};
+ghost use Rattle.std.specs.Prelude.{◌≡◌, ◌<◌, ◌≤◌, length, [], slice_index_or, IfOk, IfErr, OnOk, Some, None};
+ghost use Rattle.cover_sets.specs.declared.cover_lists.CoverError.TheVariants.{TooWide};
+ghost use Rattle.cover_sets.specs.Bits.{set_of};
+ghost use Rattle.cover_sets.specs.Cover.{covers_in};
+ghost use Rattle.cover_sets.specs.Union.{covers_of};
+ghost use Rattle.tableau_nba.specs.Tableau.{AreCovers};
 
 use cover_sets::{BitCover, CoverError, CoverTable, NumberSet};
 use indexmap::IndexSet;
@@ -26,7 +31,10 @@ impl Model for Lists {
 }
 
 impl Lists {
-    pub fn new(alloc: Global) -> Lists {
+    pub fn new(alloc: Global) -> Lists
+        ensures sets { result.sets ≡ [] }
+        ensures lists { result.lists ≡ [] }
+    {
         Lists {
             sets: IndexSet::new(alloc),
             lists: Vec::new(alloc),
@@ -40,7 +48,11 @@ impl Lists {
         table: &CoverTable,
         set: &NumberSet,
     ) -> Result<usize, CoverError>
-        ensures { IfOk result (λ at. at < length self.new.lists) }
+        requires { AreCovers table.now self.old.sets self.old.lists }
+        ensures place { IfOk result (λ at. at < length self.new.lists) }
+        ensures value { IfOk result (λ at. covers_in table.now (set_of set.now) ≡ Some (covers_of (slice_index_or self.new.lists at []))) }
+        ensures covers { OnOk result (AreCovers table.now self.new.sets self.new.lists) }
+        ensures wide { IfErr result (λ e. e ≡ TooWide → covers_in table.now (set_of set.now) ≡ None) }
     {
         if let Some(at) = self.sets.get_index_of(set) {
             return Ok(at);
@@ -54,6 +66,7 @@ impl Lists {
     /// The covers at a place.
     pub fn at(&self, at: usize) -> &[BitCover]
         requires { at < length self.now.lists }
+        ensures { result.now ≡ slice_index_or self.now.lists at [] }
     {
         self.lists[at].as_slice()
     }

@@ -1,11 +1,15 @@
 //! The breadth-first walk from the whole formula.
 
-ghost use Rattle.std.specs.Prelude.{◌≡◌, ◌<◌, ◌≤◌, ◌+◌, length, All, IfOk};
+ghost use Rattle.std.specs.Prelude.{◌≡◌, ◌<◌, ◌≤◌, ◌+◌, length, List, All, IfOk, IfErr};
+ghost use Rattle.tableau_nba.specs.Walks.{all_spots, automaton_in, found, Spot, too_many, too_wide, walk_data};
 ghost use Rattle.ltl_form.specs.Normal.{LiteralsBelow};
-ghost use Rattle.tableau_nba.specs.declared.tableaux.TableauError.TheVariants.{Memory};
+ghost use Rattle.cover_sets.specs.declared.cover_lists.CoverError.TheVariants.{TooWide as Wide};
+ghost use Rattle.tableau_nba.specs.declared.tableaux.TableauError.TheVariants.{Memory, TooManyStates, TooWide};
 
-use crate::walks::Walk;
-use cover_sets::CoverError;
+use crate::cubes::literals_of;
+use crate::places::untils_of;
+use crate::walks::states_from;
+use cover_sets::{CoverError, CoverTable};
 use ltl_form::Normal;
 use std::alloc::{AllocError, AllocFailed, Global};
 use thiserror::Error;
@@ -41,7 +45,7 @@ impl<T: Drop> From<AllocFailed<T>> for TableauError {
 }
 
 impl From<CoverError> for TableauError {
-    ghost from_gives = { λ _ _. Unit {0} };
+    ghost from_gives = { λ e t. (t ≡ TooWide → e ≡ Wide) × (t ≡ TooManyStates → ⊥) };
 
     fn from(e: CoverError) -> TableauError {
         match e {
@@ -58,10 +62,15 @@ impl From<CoverError> for TableauError {
 pub fn tableau(alloc: Global, f: &Normal, signals: u32) -> Result<Automaton, TableauError>
     requires literals { LiteralsBelow signals f.now.nodes }
     requires signals { signals ≤ 64 }
-    ensures { IfOk result (λ a. a.signals ≡ signals) }
+    ensures signals { IfOk result (λ a. a.signals ≡ signals) }
+    ensures value { IfOk result (λ a. (spots : List Spot) × (all_spots (walk_data f.now.nodes signals) f.now.root ≡ found spots) × (a ≡ automaton_in (walk_data f.now.nodes signals) spots)) }
+    ensures many { IfErr result (λ e. e ≡ TooManyStates → all_spots (walk_data f.now.nodes signals) f.now.root ≡ too_many) }
+    ensures wide { IfErr result (λ e. e ≡ TooWide → all_spots (walk_data f.now.nodes signals) f.now.root ≡ too_wide) }
 {
-    let walk = Walk::new(alloc, f, signals)?;
-    let states = walk.states(alloc, f.root())?;
+    let table = CoverTable::new(alloc, f)?;
+    let literals = literals_of(alloc, f.nodes(), signals)?;
+    let untils = untils_of(alloc, f.nodes())?;
+    let states = states_from(alloc, &table, &literals, &untils, signals, f.root())?;
     match Automaton::make(signals, states, Some(0)) {
         Some(automaton) => Ok(automaton),
         None => unreachable!(),
