@@ -1,5 +1,7 @@
+pub mod Begins
 pub mod Composition
 pub mod Formulas
+pub mod Grammar
 pub mod Headings
 pub mod Mains
 pub mod Marks
