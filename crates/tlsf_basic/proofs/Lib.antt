@@ -1,3 +1,7 @@
+pub mod FormulaGood
+pub mod FormulaOperand
+pub mod FormulaRead
+pub mod FormulaWhole
 pub mod Good
 pub mod Kept
 pub mod Lift

@@ -46,10 +46,10 @@ abbrev pub no_lack : Lacks
 no_lack part p v = ⊥
 
 pub data Stop (Missing : Lacks) (B : ℕ → List Lexeme → Type 0) (n : ℕ) (p : List Lexeme) (f : TextFault) (v : List Lexeme) : Type 0 where
-  unexpected : B n p → f ≡ expected v → ends_operand p ≡ false → Stop Missing B n p f v
-  unparenthesized : B n p → f ≡ misplaced v → Operand B n p → Stop Missing B n p f v
-  deep : (t : Lexeme) (rest : List Lexeme) → B n p → f ≡ TooDeep → v ≡ t ∷ rest → B (suc n) (p ++ t ∷ []) → Stop Missing B n p f v
-  absent : (part : Part) → B n p → f ≡ missing part v → Missing part p v → Stop Missing B n p f v
+  not_expected : B n p → f ≡ expected v → ends_operand p ≡ false → Stop Missing B n p f v
+  not_parenthesized : B n p → f ≡ misplaced v → Operand B n p → Stop Missing B n p f v
+  at_depth : (t : Lexeme) (rest : List Lexeme) → B n p → f ≡ TooDeep → v ≡ t ∷ rest → B (suc n) (p ++ t ∷ []) → Stop Missing B n p f v
+  lacking : (part : Part) → B n p → f ≡ missing part v → Missing part p v → Stop Missing B n p f v
 
 -- what stands before these tokens
 abbrev pub Carried : (ℕ → List Lexeme → Type 0) → (ℕ → List Lexeme → Type 0) → ℕ → List Lexeme → Type 0
@@ -63,11 +63,11 @@ operand_behind B1 B n u p carry (q, x, g, e, is, open_) =
 pub stop_behind : (M1 M : Lacks) (B1 B : ℕ → List Lexeme → Type 0) (n : ℕ) (u p : List Lexeme) (f : TextFault) (v : List Lexeme)
     → Carried B1 B n u → (ends_operand p ≡ false → ends_operand (u ++ p) ≡ false) → ((part : Part) → M1 part p v → M part (u ++ p) v)
     → Stop M1 B1 n p f v → Stop M B n (u ++ p) f v
-stop_behind M1 M B1 B n u p f v carry ends lack (unexpected b fault end) = unexpected (carry n p (omega arith) b) fault (ends end)
-stop_behind M1 M B1 B n u p f v carry ends lack (unparenthesized b fault operand) = unparenthesized (carry n p (omega arith) b) fault (operand_behind B1 B n u p carry operand)
-stop_behind M1 M B1 B n u p f v carry ends lack (deep t rest b fault is more) =
-    deep t rest (carry n p (omega arith) b) fault is (subst (B (suc n)) (sym (append_assoc u p (t ∷ []))) (carry (suc n) (p ++ t ∷ []) (omega arith) more))
-stop_behind M1 M B1 B n u p f v carry ends lack (absent part b fault missing_) = absent part (carry n p (omega arith) b) fault (lack part missing_)
+stop_behind M1 M B1 B n u p f v carry ends lack (not_expected b fault end) = not_expected (carry n p (omega arith) b) fault (ends end)
+stop_behind M1 M B1 B n u p f v carry ends lack (not_parenthesized b fault operand) = not_parenthesized (carry n p (omega arith) b) fault (operand_behind B1 B n u p carry operand)
+stop_behind M1 M B1 B n u p f v carry ends lack (at_depth t rest b fault is more) =
+    at_depth t rest (carry n p (omega arith) b) fault is (subst (B (suc n)) (sym (append_assoc u p (t ∷ []))) (carry (suc n) (p ++ t ∷ []) (omega arith) more))
+stop_behind M1 M B1 B n u p f v carry ends lack (lacking part b fault missing_) = lacking part (carry n p (omega arith) b) fault (lack part missing_)
 
 -- the same tokens as those of a larger rule
 pub stop_within : (M : Lacks) (B1 B : ℕ → List Lexeme → Type 0) (n : ℕ) (p : List Lexeme) (f : TextFault) (v : List Lexeme)
