@@ -23,11 +23,11 @@ atom_whole n = is_atom (made s.True) refl
 
 ands_join : {n : ℕ} {w v : List Lexeme} {fs gs : List Ltl} → IsAnds n w fs → IsAnds n v gs → IsAnds n (w ++ v) (fs ++ gs)
 ands_join no_and y = y
-ands_join {v = v} {gs = gs} (and_more {f = f} {fs = fs} t w z is x xs) y = subst (λ q. IsAnds _ (t ∷ q) (f ∷ fs ++ gs)) (sym (append_assoc w z v)) (and_more t w (z ++ v) is x (ands_join xs y))
+ands_join {v = v} {gs = gs} (and_more {n = n} {f = f} {fs = fs} t w z is x xs) y = subst (λ q. IsAnds n (t ∷ q) (f ∷ fs ++ gs)) (sym (append_assoc w z v)) (and_more t w (z ++ v) is x (ands_join xs y))
 
 ors_join : {n : ℕ} {w v : List Lexeme} {fs gs : List Ltl} → IsOrs n w fs → IsOrs n v gs → IsOrs n (w ++ v) (fs ++ gs)
 ors_join no_or y = y
-ors_join {v = v} {gs = gs} (or_more {f = f} {fs = fs} t w z is x xs) y = subst (λ q. IsOrs _ (t ∷ q) (f ∷ fs ++ gs)) (sym (append_assoc w z v)) (or_more t w (z ++ v) is x (ors_join xs y))
+ors_join {v = v} {gs = gs} (or_more {n = n} {f = f} {fs = fs} t w z is x xs) y = subst (λ q. IsOrs n (t ∷ q) (f ∷ fs ++ gs)) (sym (append_assoc w z v)) (or_more t w (z ++ v) is x (ors_join xs y))
 
 -- the closing parenthesis, where it isn't there
 close_whole : (n : ℕ) (f : Ltl) (t : Lexeme) (w r : List Lexeme) → t.symbol ≡ s.Open → IsFormula n w f → BeginsMark is_close r → GoesOn (IsUnary (suc n)) (t ∷ w ++ r)

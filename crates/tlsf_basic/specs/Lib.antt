@@ -6,6 +6,9 @@ pub mod Headings
 pub mod Mains
 pub mod Marks
 pub mod Reads
+pub mod Rows
 pub mod Signals
 pub mod Specification
+pub mod TextBegins
+pub mod TextGrammar
 pub mod Words

@@ -77,3 +77,39 @@ end w = (if is_end (front w) then Ok w else unexpected w)
 -- a list in braces goes on up to the closing one
 abbrev pub in_braces : Symbol → Bool
 in_braces symbol = not (is_close_brace symbol)
+
+abbrev pub is_title : Symbol → Bool
+is_title s.Title = true
+is_title _ = false
+
+abbrev pub is_description : Symbol → Bool
+is_description s.Description = true
+is_description _ = false
+
+abbrev pub is_semantics : Symbol → Bool
+is_semantics s.Semantics = true
+is_semantics _ = false
+
+abbrev pub is_target : Symbol → Bool
+is_target s.Target = true
+is_target _ = false
+
+abbrev pub is_tags : Symbol → Bool
+is_tags s.Tags = true
+is_tags _ = false
+
+abbrev pub is_kind : Symbol → Bool
+is_kind (s.Kind kind) = true
+is_kind _ = false
+
+abbrev pub is_inputs : Symbol → Bool
+is_inputs s.Inputs = true
+is_inputs _ = false
+
+abbrev pub is_outputs : Symbol → Bool
+is_outputs s.Outputs = true
+is_outputs _ = false
+
+abbrev pub is_section : Symbol → Bool
+is_section (s.Section section) = true
+is_section _ = false
