@@ -7,6 +7,7 @@ pub mod Kept
 pub mod Lift
 pub mod Loops
 pub mod Numbered
+pub mod RowFacts
 pub mod Stopping
 pub mod Turns
 pub mod WordLemmas

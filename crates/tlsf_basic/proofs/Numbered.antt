@@ -115,7 +115,7 @@ module _ (n : ℕ) where
       (conjunction_below _ e.assert) (conjunction_below _ e.assume) (conjunction_below _ e.guarantee)
 
   -- the formula of a text whose names are declared and numbered below n
-  pub read_below : (w : List Lexeme) (r : Heading × Sections) (is_strict : Bool) → All (IsSignalBelow n) w → All IsKnown w → read_text w ≡ Ok r → Below (formula_of is_strict r.1)
+  pub read_below : (w : List Lexeme) (r : Heading × Sections) (is_strict : Bool) → All (IsSignalBelow n) w → All IsKnown w → read_text 256 w ≡ Ok r → Below (formula_of is_strict r.1)
   read_below w r is_strict below known is =
       let k = at_text IsSound (λ _. Unit {0}) Below sound w (λ j d l. (below j d l, known j d l)) in
       formula_below is_strict r.1 (subst (KeepsText IsSound (λ _. Unit {0}) Below sound) is k).1

@@ -61,7 +61,7 @@ fn whole_text(
     lexemes: &[Lexeme],
 ) -> Result<(Heading, Sections), TextError>
     requires { All (SpanWithin len) lexemes.now }
-    ensures value { GivesPlaced len result (read_text lexemes.now) }
+    ensures value { GivesPlaced len result (read_text 256 lexemes.now) }
     ensures place { IfErr result (IsPlaced len) }
 {
     match read_text(alloc, lexemes) {

@@ -6,5 +6,5 @@ use Rattle.tlsf_basic.proofs.mains.read_parts.Given as goal
 
 abbrev pub invariant-loop : goal.invariant-loop
 invariant-loop l =
-    turns in_braces read_part (l.end - l.counter) l.parts l.rest
-    ≡ turns in_braces read_part (length l.tokens) no_parts l.tokens
+    turns in_braces (read_part 256) (l.end - l.counter) l.parts l.rest
+    ≡ turns in_braces (read_part 256) (length l.tokens) no_parts l.tokens
