@@ -143,6 +143,16 @@ module _ (Fits : TextFault → Type 0) where
   pub at_unexpected : {A : Type 0} (T : Texts A) (S : Stops) (w : List Lexeme) → S [] (expected w) w → Good T S (By unexpected) w (unexpected w)
   at_unexpected T S w stop = ([], refl, stop, λ fits v al. ap (λ y. Err (expected_by y, v)) (sym (alike_front w v al)))
 
+  -- a value behind what has none
+  pub past_value : {A : Type 0} (T1 : Texts (Unit {0})) (T : Texts A) (S1 S : Stops) (other : List Lexeme → Past) (a : A) (w : List Lexeme) (r : Past) → ((u : List Lexeme) → T1 u tt → T u a) → ((p : List Lexeme) (f : TextFault) (v : List Lexeme) → S1 p f v → S p f v) → Good T1 S1 (Passed other) w (valued r) → Good T S (By (λ x. other x >>= λ v. Ok (a, v))) w (r >>= λ v. Ok (a, v))
+  past_value T1 T S1 S other a w (Ok z) is st (u, e, text, l) = (u, e, is u text, λ v al. ap (λ q. q >>= λ v. Ok (a, v)) (l v al))
+  past_value T1 T S1 S other a w (Err x) is st (p, e, stop, l) = (p, e, st p x.0 x.1 stop, λ fits v al. ap (λ q. q >>= λ v. Ok (a, v)) (l fits v al))
+
+  -- what may stand once
+  pub once_each : {A : Type 0} (T : Texts A) (S : Stops) (b : Bool) (other : List Lexeme → Read A) (w : List Lexeme) → S [] (expected w) w → (b ≡ false → Good T S (By other) w (other w)) → Good T S (By (λ x. cond b (unexpected x) (other x))) w (cond b (unexpected w) (other w))
+  once_each T S true other w stop good = at_unexpected T S w stop
+  once_each T S false other w stop good = good refl
+
   -- a choice by the next token
   pub choose : {A : Type 0} (T : Texts A) (S : Stops) (other : Symbol → List Lexeme → Read A) (symbol : Symbol) (w : List Lexeme) (r : Read A) → symbol ≡ front w → Good T S (By (other symbol)) w r → Good T S (By (λ x. other (front x) x)) w r
   choose T S other symbol w r is good =

@@ -3,6 +3,7 @@ pub mod FormulaOperand
 pub mod FormulaRead
 pub mod FormulaWhole
 pub mod Good
+pub mod HeadingGood
 pub mod Kept
 pub mod Lift
 pub mod Loops

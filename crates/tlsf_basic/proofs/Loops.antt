@@ -1,12 +1,12 @@
 -- Turns up to what closes them.
-use Rattle.std.proofs.Common.{◌≡◌, ℕ, zero, suc, ◌<◌, ◌≤◌, Bool, true, false, List, [], ◌∷◌, ◌++◌, length, Result, Ok, Err, sym, refl, ap, ◌∙◌, subst, arith, length-append}
+use Rattle.std.proofs.Common.{◌≡◌, ℕ, zero, suc, ◌<◌, ◌≤◌, Bool, true, false, cond, List, [], ◌∷◌, ◌++◌, length, Result, Ok, Err, sym, refl, ap, ◌∙◌, subst, arith, length-append}
 use Rattle.tlsf_basic.specs.declared.faults.TextFault.{TextFault}
 use Rattle.tlsf_basic.specs.declared.symbols.Symbol.{Symbol}
 use Rattle.tlsf_basic.specs.declared.symbols.Symbol.TheVariants as s
 use Rattle.tlsf_basic.specs.declared.symbols.Lexeme.{Lexeme}
-use Rattle.tlsf_basic.specs.Reads.{Halt, Read, ◌>>=◌, front, turns}
+use Rattle.tlsf_basic.specs.Reads.{Halt, Read, Past, ◌>>=◌, front, turns, passes}
 use Rattle.tlsf_basic.proofs.Turns.{turns_end, one_turn}
-use Rattle.tlsf_basic.proofs.Good.{Texts, Stops, Others, By, front_same, Good, weaker, failing, at_front, bind}
+use Rattle.tlsf_basic.proofs.Good.{Texts, Stops, Others, By, valued, unvalued, front_same, Good, weaker, failing, at_front, bind}
 
 pub bind_assoc : {A B C : Type 0} (r : Result A Halt) (f : A → Result B Halt) (g : B → Result C Halt) → (r >>= f >>= g) ≡ (r >>= λ x. f x >>= g)
 bind_assoc (Ok x) f g = refl
@@ -122,3 +122,39 @@ module _ (Fits : TextFault → Type 0) {S B : Type 0} (goes : Symbol → Bool) (
       let e : length (t ∷ ts) ≡ suc (length ts) = omega arith in
       subst (λ k. Good Fits (Once state) (St state) (Looped state) (t ∷ ts) (run goes turn close k state (t ∷ ts))) (sym e)
       (once (length ts) state (t ∷ ts) go (omega (arith, e)) (λ next v len. loop (length ts) next v len))
+
+-- turns without a value
+
+pub valued_unvalued : (q : Read (Unit {0})) → valued (unvalued q) ≡ q
+valued_unvalued (Ok r) = refl
+valued_unvalued (Err e) = refl
+
+pub unvalued_valued : (p : Past) → unvalued (valued p) ≡ p
+unvalued_valued (Ok w) = refl
+unvalued_valued (Err e) = refl
+
+pub by_valued : (p : Past) (q : Read (Unit {0})) → p ≡ unvalued q → valued p ≡ q
+by_valued p q e = ap valued e ∙ valued_unvalued q
+
+pub from_valued : (p : Past) (q : Read (Unit {0})) → valued p ≡ q → p ≡ unvalued q
+from_valued p q e = sym (unvalued_valued p) ∙ ap unvalued e
+
+module _ (goes : Symbol → Bool) (turn close : List Lexeme → Past) where
+  abbrev pub passing : Unit {0} → List Lexeme → Read (Unit {0})
+  passing a x = valued (turn x)
+
+  abbrev pub closing_pass : Unit {0} → List Lexeme → Read (Unit {0})
+  closing_pass a x = valued (close x)
+
+  pass_err : (k : ℕ) (r : Past) → ((w : List Lexeme) → valued (passes goes turn k w >>= close) ≡ run goes passing closing_pass k tt w) → valued (r >>= passes goes turn k >>= close) ≡ (valued r >>= (λ x. turns goes passing k x.0 x.1) >>= (λ x. closing_pass x.0 x.1))
+  pass_err k (Ok w) same = same w
+  pass_err k (Err e) same = refl
+
+  pub passes_run : (k : ℕ) (w : List Lexeme) → valued (passes goes turn k w >>= close) ≡ run goes passing closing_pass k tt w
+  unfolding passes turns
+  passes_run zero w = refl
+  passes_run (suc k) w = go (goes (front w)) (pass_err k (turn w) (passes_run k)) where
+      go : (b : Bool) → valued (turn w >>= passes goes turn k >>= close) ≡ (valued (turn w) >>= (λ x. turns goes passing k x.0 x.1) >>= (λ x. closing_pass x.0 x.1))
+        → valued (cond b (turn w >>= passes goes turn k) (Ok w) >>= close) ≡ (cond b (valued (turn w) >>= (λ x. turns goes passing k x.0 x.1)) (Ok (tt, w)) >>= (λ x. closing_pass x.0 x.1))
+      go true e = e
+      go false e = refl

@@ -1,0 +1,193 @@
+-- What reading the first part gives is one, and where it stops the tokens before begin one.
+use Rattle.std.proofs.Common.{◌≡◌, ℕ, zero, suc, ◌<◌, ◌≤◌, Bool, true, false, not, cond, List, [], ◌∷◌, ◌++◌, length, drop, Result, Ok, Err, Option, Some, None, sym, refl, ap, ◌∙◌, subst, arith, append_assoc, append-nil}
+use Rattle.std.specs.Prelude.{is_some}
+use Rattle.word_core.specs.declared.names.Target.{Target}
+use Rattle.tlsf_basic.specs.declared.faults.Part.{Part}
+use Rattle.tlsf_basic.specs.declared.faults.Part.TheVariants as part
+use Rattle.tlsf_basic.specs.declared.faults.TextFault.{TextFault}
+use Rattle.tlsf_basic.specs.declared.headings.Semantics.{Semantics}
+use Rattle.tlsf_basic.specs.declared.headings.PlacedTarget.{PlacedTarget}
+use Rattle.tlsf_basic.specs.declared.headings.Items.{Items}
+use Rattle.tlsf_basic.specs.declared.headings.Heading.{Heading}
+use Rattle.tlsf_basic.specs.declared.symbols.Symbol.{Symbol}
+use Rattle.tlsf_basic.specs.declared.symbols.Symbol.TheVariants as s
+use Rattle.tlsf_basic.specs.declared.symbols.Lexeme.{Lexeme}
+use Rattle.tlsf_basic.specs.Reads.{Halt, Read, Past, ◌>>=◌, front, expected_by, expected, unexpected, missing, missing_by, passes, turns}
+use Rattle.tlsf_basic.specs.Marks.{mark, part_word, in_braces, is_title, is_description, is_semantics, is_target, is_tags, is_colon, is_text, is_comma, is_kind, is_info, is_open_brace, is_close_brace}
+use Rattle.tlsf_basic.specs.Headings.{is_strict, is_name, read_string, kind_by, read_kind, strict_by, semantics_by, read_semantics, read_tags, read_title, read_description, read_tag_item, read_semantics_item, read_target_item, item_by, read_item, no_items, read_items, heading_by, close_heading, read_heading}
+use Rattle.tlsf_basic.specs.Rows.{IsRow, BeginsRow}
+use Rattle.tlsf_basic.specs.TextGrammar.{IsSemantics, kind_alone, kind_first, strict_first, IsMoreTags, no_tag, tag_more, IsItem, is_title_item, is_description_item, is_semantics_item, is_target_item, is_tags_item, IsItems, no_item, item_more, IsHeading, is_heading}
+use Rattle.tlsf_basic.specs.TextBegins.{BeginsSemantics, in_kind_first, in_strict_first, BeginsItem, no_item_yet, in_title, in_description, at_semantics, in_semantics, in_target, at_tags, in_tags, BeginsItems, in_items, BeginsHeading, at_info, in_info, whole_heading}
+use Rattle.tlsf_basic.proofs.Good.{Texts, Stops, Others, By, Passed, valued, unvalued, Alike, Good, weaker, behind_token, then, past-then, past_value, once_each, gives, map_value, at_front, at_unexpected, choose, IsOne, StopsAt, token, at_token}
+use Rattle.tlsf_basic.proofs.Loops.{run, loop, Looped, bind_assoc, by_valued, passes_run, from_valued}
+use Rattle.tlsf_basic.proofs.Stopping.{ends_by, ends_operand, ends-append, Operand, Lacks, no_lack, Stop, not_expected, not_parenthesized, at_depth, lacking, Carried, stop_behind}
+use Rattle.tlsf_basic.proofs.RowFacts.{Class, Classes, title_class, description_class, semantics_class, target_class, tags_class, colon_class, text_class, comma_class, kind_class, strict_class, name_class, info_class, open_brace_class, close_brace_class, row_quiet, begins_row_quiet, RowStop, at_mark, at_pair}
+
+abbrev pub Quiet : List Lexeme → Type 0
+Quiet w = ends_operand w ≡ false
+
+-- a stop at which no operand ends
+abbrev pub Plain : (List Lexeme → Type 0) → Stops
+Plain B p f v = B p × (f ≡ expected v) × Quiet p
+
+abbrev pub KindText : Texts PlacedTarget
+KindText u k = (t : Lexeme) × (kind : Target) × (u ≡ t ∷ []) × (t.symbol ≡ s.Kind kind) × (k ≡ record { target = kind; place = t.from })
+
+abbrev pub AtOnce : Stops
+AtOnce p f v = (p ≡ []) × (f ≡ expected v)
+
+abbrev pub ItemText : Items → Texts Items
+ItemText i u after = IsItem i u after × Quiet u
+
+abbrev pub ItemStop : Items → Stops
+ItemStop i = Plain (BeginsItem i)
+
+abbrev SemanticsText : Texts Semantics
+SemanticsText u x = IsSemantics u x × Quiet u
+
+abbrev SemanticsStop : Stops
+SemanticsStop = Plain BeginsSemantics
+
+abbrev TagTurn : Unit {0} → Texts (Unit {0})
+TagTurn a u b = (c : Lexeme) × (t : Lexeme) × (u ≡ c ∷ t ∷ []) × IsRow (is_comma ∷ is_name ∷ []) (c ∷ t ∷ [])
+
+abbrev MoreTags : Unit {0} → Texts (Unit {0})
+MoreTags a u b = IsMoreTags u
+
+abbrev TagsStop : Unit {0} → Stops
+TagsStop a p f v = (w : List Lexeme) × (q : List Lexeme) × (p ≡ w ++ q) × IsMoreTags w × BeginsRow (is_comma ∷ is_name ∷ []) q × (f ≡ expected v)
+
+comma_is : (y : Symbol) → is_comma y ≡ true → y ≡ s.Comma
+comma_is s.Comma e = refl
+comma_is y e = cc
+
+kind_is : (y : Symbol) → is_kind y ≡ true → (kind : Target) × (y ≡ s.Kind kind)
+kind_is (s.Kind kind) e = (kind, refl)
+kind_is y e = cc
+
+none_of : {A : Type 0} (o : Option A) → is_some o ≡ false → o ≡ None
+none_of None e = refl
+none_of (Some x) e = cc
+
+semantics_quiet : (u : List Lexeme) (x : Semantics) → IsSemantics u x → Quiet u
+semantics_quiet u x (kind_alone k kind is) = row_quiet (is_kind ∷ []) (kind_class, tt) (k ∷ []) (ap is_kind is, tt)
+semantics_quiet u x (kind_first k kind c t is row) = row_quiet (is_kind ∷ is_comma ∷ is_strict ∷ []) (kind_class, (comma_class, (strict_class, tt))) (k ∷ c ∷ t ∷ []) (ap is_kind is, row)
+semantics_quiet u x (strict_first t c k kind row is) = row_quiet (is_strict ∷ is_comma ∷ is_kind ∷ []) (strict_class, (comma_class, (kind_class, tt))) (t ∷ c ∷ k ∷ []) (row.0, (row.1.0, (ap is_kind is, tt)))
+
+tags_quiet : (w : List Lexeme) → IsMoreTags w → Quiet w
+tags_quiet w no_tag = refl
+tags_quiet w (tag_more c t v row more) = ends-append (c ∷ t ∷ []) v (row_quiet (is_comma ∷ is_name ∷ []) (comma_class, (name_class, tt)) (c ∷ t ∷ []) row) (tags_quiet v more)
+
+module _ (Fits : TextFault → Type 0) where
+  at_string : (w : List Lexeme) → Good Fits (λ u a. IsRow (is_colon ∷ is_text ∷ []) u) (RowStop (is_colon ∷ is_text ∷ [])) (Passed read_string) w (valued (read_string w))
+  unfolding read_string
+  at_string w = at_pair Fits is_colon is_text colon_class text_class w
+
+  -- a word, `:` and a string
+  row_item : (head : Symbol → Bool) → Class head → (i after : Items) (t : Lexeme) (ts : List Lexeme) → head t.symbol ≡ true
+      → ((u : List Lexeme) → IsRow (head ∷ is_colon ∷ is_text ∷ []) u → IsItem i u after) → ((p : List Lexeme) → BeginsRow (head ∷ is_colon ∷ is_text ∷ []) p → BeginsItem i p)
+      → Good Fits (ItemText i) (ItemStop i) (By (λ x. read_string (drop 1 x) >>= λ v. Ok (after, v))) (t ∷ ts) (read_string ts >>= λ v. Ok (after, v))
+  row_item head k i after t ts is text begins =
+      let classes : Classes (head ∷ is_colon ∷ is_text ∷ []) = (k, (colon_class, (text_class, tt))) in
+      behind_token Fits (λ u b. (b ≡ after) × IsRow (is_colon ∷ is_text ∷ []) u) (ItemText i) (RowStop (is_colon ∷ is_text ∷ [])) (ItemStop i) (By (λ x. read_string x >>= λ v. Ok (after, v))) (By (λ x. read_string (drop 1 x) >>= λ v. Ok (after, v))) t ts (read_string ts >>= λ v. Ok (after, v))
+      (λ u b h. (subst (IsItem i (t ∷ u)) (sym h.0) (text (t ∷ u) (is, h.1)), row_quiet (head ∷ is_colon ∷ is_text ∷ []) classes (t ∷ u) (is, h.1)))
+      (λ p f v h. (begins (t ∷ p) (is, h.0), h.1, begins_row_quiet (head ∷ is_colon ∷ is_text ∷ []) classes (t ∷ p) (is, h.0)))
+      (λ x q h. h)
+      (past_value Fits (λ u a. IsRow (is_colon ∷ is_text ∷ []) u) (λ u b. (b ≡ after) × IsRow (is_colon ∷ is_text ∷ []) u) (RowStop (is_colon ∷ is_text ∷ [])) (RowStop (is_colon ∷ is_text ∷ [])) read_string after ts (read_string ts)
+      (λ u h. (refl, h)) (λ p f v h. h) (at_string ts))
+
+  at_title : (i : Items) (w : List Lexeme) → s.Title ≡ front w → Good Fits (ItemText i) (ItemStop i) (By (read_title i)) w (read_title i w)
+  unfolding read_title
+  at_title i [] is = cc
+  at_title i (t ∷ ts) is =
+      once_each Fits (ItemText i) (ItemStop i) i.title (λ x. read_string (drop 1 x) >>= λ v. Ok (record i { title = true }, v)) (t ∷ ts) (no_item_yet i, refl, refl)
+      (λ e. row_item is_title title_class i (record i { title = true }) t ts (ap is_title (sym is)) (λ u h. is_title_item i u e h) (λ p h. in_title i p e h))
+
+  at_description : (i : Items) (w : List Lexeme) → s.Description ≡ front w → Good Fits (ItemText i) (ItemStop i) (By (read_description i)) w (read_description i w)
+  unfolding read_description
+  at_description i [] is = cc
+  at_description i (t ∷ ts) is =
+      once_each Fits (ItemText i) (ItemStop i) i.description (λ x. read_string (drop 1 x) >>= λ v. Ok (record i { description = true }, v)) (t ∷ ts) (no_item_yet i, refl, refl)
+      (λ e. row_item is_description description_class i (record i { description = true }) t ts (ap is_description (sym is)) (λ u h. is_description_item i u e h) (λ p h. in_description i p e h))
+
+  -- kinds
+
+  no_kind : (v : List Lexeme) → Alike [] v → read_kind v ≡ Err (expected [], v)
+  unfolding read_kind
+  no_kind [] al = refl
+  no_kind (u ∷ us) al = absurd al
+
+  other_kind : (t : Lexeme) (ts : List Lexeme) → ((us : List Lexeme) → kind_by t.symbol t us ≡ unexpected (t ∷ us)) → (v : List Lexeme) → Alike (t ∷ ts) v → read_kind v ≡ Err (expected (t ∷ ts), v)
+  unfolding read_kind
+  other_kind t ts e [] al = absurd al
+  other_kind t ts e (u ∷ us) al = subst (λ x. read_kind (x ∷ us) ≡ Err (expected (t ∷ ts), x ∷ us)) al (e us)
+
+  at_kind : (w : List Lexeme) → Good Fits KindText AtOnce (By read_kind) w (read_kind w)
+  unfolding read_kind
+  at_kind [] = ([], refl, (refl, refl), λ fits v al. no_kind v al)
+  at_kind (t ∷ ts) = go t.symbol refl where
+      go : (y : Symbol) → t.symbol ≡ y → Good Fits KindText AtOnce (By read_kind) (t ∷ ts) (kind_by y t ts)
+      go (s.Kind kind) e = (t ∷ [], refl, (t, kind, refl, e, refl), λ v al. ap (λ y. kind_by y t v) e)
+      go y e = ([], refl, (refl, refl), λ fits v al. other_kind t ts (λ us. ap (λ y. kind_by y t us) e) v al)
+
+  -- `, Strict` behind a kind, or not
+  strict-go : (u : List Lexeme) (k : Lexeme) (kind : Target) → u ≡ k ∷ [] → k.symbol ≡ s.Kind kind → (y : Symbol) (v : List Lexeme) → y ≡ front v → Good Fits (λ x b. SemanticsText (u ++ x) b) (λ p f z. SemanticsStop (u ++ p) f z) (By (strict_by y kind)) v (strict_by y kind v)
+  strict-go u k kind eu is s.Comma [] e = cc
+  strict-go u k kind eu is s.Comma (c ∷ cs) e =
+      behind_token Fits (λ x b. SemanticsText (u ++ c ∷ x) b) (λ x b. SemanticsText (u ++ x) b) (λ p f z. SemanticsStop (u ++ c ∷ p) f z) (λ p f z. SemanticsStop (u ++ p) f z)
+      (By (λ x. mark is_strict x >>= λ v. Ok (record { kind = kind; strict = true }, v))) (By (λ x. mark is_strict (drop 1 x) >>= λ v. Ok (record { kind = kind; strict = true }, v))) c cs (mark is_strict cs >>= λ v. Ok (record { kind = kind; strict = true }, v))
+      (λ x b h. h) (λ p f z h. h) (λ x q h. h)
+      (past_value Fits (IsOne is_strict) (λ x b. SemanticsText (u ++ c ∷ x) b) (StopsAt is_strict expected_by) (λ p f z. SemanticsStop (u ++ c ∷ p) f z) (mark is_strict) (record { kind = kind; strict = true }) cs (mark is_strict cs)
+      (λ x h. text x h.0 h.1 h.2) (λ p f z h. stop p f z h.0 h.1) (at_mark Fits is_strict strict_class cs))
+      where
+        text : (x : List Lexeme) (t : Lexeme) → x ≡ t ∷ [] → is_strict t.symbol ≡ true → SemanticsText (u ++ c ∷ x) (record { kind = kind; strict = true })
+        text x t ex it =
+            let whole : IsSemantics (k ∷ c ∷ t ∷ []) (record { kind = kind; strict = true }) = kind_first k kind c t is (ap is_comma (sym e), (it, tt)) in
+            subst (λ q. SemanticsText (q ++ c ∷ x) (record { kind = kind; strict = true })) (sym eu) (subst (λ q. SemanticsText (k ∷ c ∷ q) (record { kind = kind; strict = true })) (sym ex) (whole, semantics_quiet (k ∷ c ∷ t ∷ []) (record { kind = kind; strict = true }) whole))
+
+        stop : (p : List Lexeme) (f : TextFault) (z : List Lexeme) → p ≡ [] → f ≡ expected z → SemanticsStop (u ++ c ∷ p) f z
+        stop p f z ep fault =
+            subst (λ q. SemanticsStop (q ++ c ∷ p) f z) (sym eu) (subst (λ q. SemanticsStop (k ∷ c ∷ q) f z) (sym ep)
+            (in_kind_first (k ∷ c ∷ []) (ap is_kind is, (ap is_comma (sym e), tt)), fault, begins_row_quiet (is_kind ∷ is_comma ∷ is_strict ∷ []) (kind_class, (comma_class, (strict_class, tt))) (k ∷ c ∷ []) (ap is_kind is, (ap is_comma (sym e), tt))))
+  strict-go u k kind eu is y v e =
+      let whole : IsSemantics (k ∷ []) (record { kind = kind; strict = false }) = kind_alone k kind is in
+      gives Fits (λ x b. SemanticsText (u ++ x) b) (λ p f z. SemanticsStop (u ++ p) f z) (record { kind = kind; strict = false }) v
+      (subst (λ q. SemanticsText (q ++ []) (record { kind = kind; strict = false })) (sym eu) (whole, semantics_quiet (k ∷ []) (record { kind = kind; strict = false }) whole))
+
+  at_kind_first : (w : List Lexeme) → Good Fits SemanticsText SemanticsStop (By (λ x. read_kind x >>= λ r. strict_by (front r.1) r.0.target r.1)) w (read_kind w >>= λ r. strict_by (front r.1) r.0.target r.1)
+  at_kind_first w =
+      then Fits KindText AtOnce read_kind (λ r. strict_by (front r.1) r.0.target r.1) SemanticsText SemanticsStop w (read_kind w) (λ r. strict_by (front r.1) r.0.target r.1)
+      (at_kind w) (λ p f v h. (subst BeginsSemantics (sym h.0) (in_kind_first [] tt), h.1, subst Quiet (sym h.0) refl))
+      (λ u a v e h. subst (λ y. Good Fits (λ x b. SemanticsText (u ++ x) b) (λ p f z. SemanticsStop (u ++ p) f z) (By (λ x. strict_by (front x) y x)) v (strict_by (front v) y v)) (sym (ap (λ r. r.target) h.4))
+      (choose Fits (λ x b. SemanticsText (u ++ x) b) (λ p f z. SemanticsStop (u ++ p) f z) (λ y. strict_by y h.1) (front v) v (strict_by (front v) h.1 v) refl (strict-go u h.0 h.1 h.2 h.3 (front v) v refl)))
+
+  at_strict_first : (w : List Lexeme) → s.Strict ≡ front w → Good Fits SemanticsText SemanticsStop (By (semantics_by s.Strict)) w (semantics_by s.Strict w)
+  at_strict_first [] is = cc
+  at_strict_first (t ∷ ts) is =
+      behind_token Fits (λ x b. SemanticsText (t ∷ x) b) SemanticsText (λ p f z. SemanticsStop (t ∷ p) f z) SemanticsStop
+      (By (λ x. mark is_comma x >>= λ v. read_kind v >>= λ r. Ok (record { kind = r.0.target; strict = true }, r.1))) (By (semantics_by s.Strict)) t ts (semantics_by s.Strict (t ∷ ts))
+      (λ x b h. h) (λ p f z h. h) (λ x q h. h)
+      (past-then Fits (IsOne is_comma) (StopsAt is_comma expected_by) (mark is_comma) (λ v. read_kind v >>= λ r. Ok (record { kind = r.0.target; strict = true }, r.1)) (λ x b. SemanticsText (t ∷ x) b) (λ p f z. SemanticsStop (t ∷ p) f z) ts (mark is_comma ts) (λ v. read_kind v >>= λ r. Ok (record { kind = r.0.target; strict = true }, r.1))
+      (at_mark Fits is_comma comma_class ts)
+      (λ p f z h. subst (λ q. SemanticsStop (t ∷ q) f z) (sym h.0) (stop (t ∷ []) f z (ap is_strict (sym is), tt) h.1))
+      (λ u v e h. map_value Fits KindText (λ x b. SemanticsText (t ∷ u ++ x) b) AtOnce (λ p f z. SemanticsStop (t ∷ u ++ p) f z) read_kind (λ k. record { kind = k.target; strict = true }) v (read_kind v)
+      (λ x k m. text u x k h.0 h.1 h.2 m)
+      (λ p f z m. subst (λ q. SemanticsStop (t ∷ q ++ p) f z) (sym h.1) (subst (λ q. SemanticsStop (t ∷ h.0 ∷ q) f z) (sym m.0) (stop (t ∷ h.0 ∷ []) f z (ap is_strict (sym is), (h.2, tt)) m.1)))
+      (at_kind v)))
+      where
+        stop : (p : List Lexeme) (f : TextFault) (z : List Lexeme) → BeginsRow (is_strict ∷ is_comma ∷ is_kind ∷ []) p → f ≡ expected z → SemanticsStop p f z
+        stop p f z row fault = (in_strict_first p row, fault, begins_row_quiet (is_strict ∷ is_comma ∷ is_kind ∷ []) (strict_class, (comma_class, (kind_class, tt))) p row)
+
+        text : (u x : List Lexeme) (k : PlacedTarget) (c : Lexeme) → u ≡ c ∷ [] → is_comma c.symbol ≡ true → KindText x k → SemanticsText (t ∷ u ++ x) (record { kind = k.target; strict = true })
+        text u x k c eu ic (m, kind, ex, im, ek) =
+            let whole : IsSemantics (t ∷ c ∷ m ∷ []) (record { kind = kind; strict = true }) = strict_first t c m kind (ap is_strict (sym is), (ic, tt)) im in
+            subst (λ (y : Target). SemanticsText (t ∷ u ++ x) (record { kind = y; strict = true })) (sym (ap (λ r. r.target) ek))
+            (subst (λ q. SemanticsText (t ∷ q ++ x) (record { kind = kind; strict = true })) (sym eu) (subst (λ q. SemanticsText (t ∷ c ∷ q) (record { kind = kind; strict = true })) (sym ex) (whole, semantics_quiet (t ∷ c ∷ m ∷ []) (record { kind = kind; strict = true }) whole)))
+
+  semantics-go : (y : Symbol) (w : List Lexeme) → y ≡ front w → Good Fits SemanticsText SemanticsStop (By (semantics_by y)) w (semantics_by y w)
+  semantics-go s.Strict w is = at_strict_first w is
+  semantics-go y w is = at_kind_first w
+
+  at_semantics_text : (w : List Lexeme) → Good Fits SemanticsText SemanticsStop (By read_semantics) w (read_semantics w)
+  unfolding read_semantics
+  at_semantics_text w = choose Fits SemanticsText SemanticsStop semantics_by (front w) w (semantics_by (front w) w) refl (semantics-go (front w) w refl)
