@@ -18,7 +18,7 @@ use Rattle.tlsf_basic.specs.Headings.{is_strict, is_name, read_string, kind_by, 
 use Rattle.tlsf_basic.specs.Rows.{IsRow, BeginsRow}
 use Rattle.tlsf_basic.specs.TextGrammar.{IsSemantics, kind_alone, kind_first, strict_first, IsMoreTags, no_tag, tag_more, IsItem, is_title_item, is_description_item, is_semantics_item, is_target_item, is_tags_item, IsItems, no_item, item_more, IsHeading, is_heading}
 use Rattle.tlsf_basic.specs.TextBegins.{BeginsSemantics, in_kind_first, in_strict_first, BeginsItem, no_item_yet, in_title, in_description, at_semantics, in_semantics, in_target, at_tags, in_tags, BeginsItems, in_items, BeginsHeading, at_info, in_info, whole_heading}
-use Rattle.tlsf_basic.proofs.Good.{Texts, Stops, Others, By, Passed, valued, unvalued, Alike, Good, weaker, behind_token, then, past-then, past_value, once_each, gives, map_value, at_front, at_unexpected, choose, IsOne, StopsAt, token, at_token}
+use Rattle.tlsf_basic.proofs.Good.{Texts, Stops, Others, By, Passed, valued, unvalued, Alike, Good, weaker, behind_token, then, past-then, past-past, past_value, once_each, gives, map_value, at_front, at_unexpected, choose, IsOne, StopsAt, token, at_token}
 use Rattle.tlsf_basic.proofs.Loops.{run, loop, Looped, bind_assoc, by_valued, passes_run, from_valued}
 use Rattle.tlsf_basic.proofs.Stopping.{ends_by, ends_operand, ends-append, Operand, Lacks, no_lack, Stop, not_expected, not_parenthesized, at_depth, lacking, Carried, stop_behind}
 use Rattle.tlsf_basic.proofs.RowFacts.{Class, Classes, title_class, description_class, semantics_class, target_class, tags_class, colon_class, text_class, comma_class, kind_class, strict_class, name_class, info_class, open_brace_class, close_brace_class, row_quiet, begins_row_quiet, RowStop, at_mark, at_pair}
@@ -191,3 +191,157 @@ module _ (Fits : TextFault → Type 0) where
   at_semantics_text : (w : List Lexeme) → Good Fits SemanticsText SemanticsStop (By read_semantics) w (read_semantics w)
   unfolding read_semantics
   at_semantics_text w = choose Fits SemanticsText SemanticsStop semantics_by (front w) w (semantics_by (front w) w) refl (semantics-go (front w) w refl)
+
+  -- names behind the first one
+
+  abbrev tag_turn : List Lexeme → Past
+  tag_turn x = mark is_name (drop 1 x)
+
+  tag_turn_good : (a : Unit {0}) (w : List Lexeme) → is_comma (front w) ≡ true → Good Fits (TagTurn a) (RowStop (is_comma ∷ is_name ∷ [])) (By (λ x. valued (tag_turn x))) w (valued (tag_turn w))
+  tag_turn_good a [] go = cc
+  tag_turn_good a (c ∷ cs) go =
+      behind_token Fits (IsOne is_name) (TagTurn a) (StopsAt is_name expected_by) (RowStop (is_comma ∷ is_name ∷ [])) (Passed (mark is_name)) (By (λ x. valued (tag_turn x))) c cs (valued (mark is_name cs))
+      (λ u b h. (c, h.0, ap (λ q. c ∷ q) h.1, (go, (h.2, tt))))
+      (λ p f v h. (subst (λ q. BeginsRow (is_comma ∷ is_name ∷ []) (c ∷ q)) (sym h.0) (go, tt), h.1))
+      (λ x q h. by_valued (mark is_name x) q h) (at_mark Fits is_name name_class cs)
+
+  tags_closed : (a : Unit {0}) (w : List Lexeme) → is_comma (front w) ≡ false → Good Fits (MoreTags a) (TagsStop a) (By (λ x. Ok (tt, x))) w (Ok (tt, w))
+  tags_closed a w e = ([], refl, no_tag, λ v al. refl)
+
+  tags_more_text : (a : Unit {0}) (u : List Lexeme) (b : Unit {0}) (v : List Lexeme) (c : Unit {0}) → TagTurn a u b → MoreTags b v c → MoreTags a (u ++ v) c
+  tags_more_text a u b v d (c, t, eu, row) more = subst (λ q. IsMoreTags (q ++ v)) (sym eu) (tag_more c t v row more)
+
+  tags_more_stop : (a : Unit {0}) (u : List Lexeme) (b : Unit {0}) (p : List Lexeme) (f : TextFault) (v : List Lexeme) → TagTurn a u b → TagsStop b p f v → TagsStop a (u ++ p) f v
+  tags_more_stop a u b p f v (c, t, eu, row) (w, q, e, more, begun, fault) = (c ∷ t ∷ w, q, ap (λ z. z ++ p) eu ∙ ap (λ z. c ∷ t ∷ z) e, tag_more c t w row more, begun, fault)
+
+  tags_some : (a : Unit {0}) (u : List Lexeme) (b : Unit {0}) → TagTurn a u b → 0 < length u
+  tags_some a u b (c, t, eu, row) = subst (λ q. 0 < length q) (sym eu) (omega arith)
+
+  bind_ok : (r : Past) → (r >>= λ x. Ok x) ≡ r
+  bind_ok (Ok x) = refl
+  bind_ok (Err e) = refl
+
+  tags_same : (w : List Lexeme) → run is_comma (λ a x. valued (tag_turn x)) (λ a x. Ok (tt, x)) (length w) tt w ≡ valued (passes is_comma tag_turn (length w) w)
+  tags_same w = sym (passes_run is_comma tag_turn (λ x. Ok x) (length w) w) ∙ ap valued (bind_ok (passes is_comma tag_turn (length w) w))
+
+  at_more_tags : (w : List Lexeme) → Good Fits (MoreTags tt) (TagsStop tt) (Passed (λ x. passes is_comma tag_turn (length x) x)) w (valued (passes is_comma tag_turn (length w) w))
+  at_more_tags w =
+      subst (Good Fits (MoreTags tt) (TagsStop tt) (Passed (λ x. passes is_comma tag_turn (length x) x)) w) (tags_same w)
+      (weaker Fits (MoreTags tt) (MoreTags tt) (TagsStop tt) (TagsStop tt) (λ x q. (k : ℕ) → length x ≤ k → run is_comma (λ a x. valued (tag_turn x)) (λ a x. Ok (tt, x)) k tt x ≡ q) (Passed (λ x. passes is_comma tag_turn (length x) x)) w
+      (run is_comma (λ a x. valued (tag_turn x)) (λ a x. Ok (tt, x)) (length w) tt w)
+      (λ u a h. h) (λ p f v h. h) (λ x q h. from_valued (passes is_comma tag_turn (length x) x) q (sym (tags_same x) ∙ h (length x) (omega arith)))
+      (loop Fits is_comma (λ a x. valued (tag_turn x)) (λ a x. valued (tag_turn x)) (λ a x. Ok (tt, x)) (λ a x. Ok (tt, x)) TagTurn (λ a. RowStop (is_comma ∷ is_name ∷ [])) MoreTags TagsStop
+      tag_turn_good tags_closed (λ a p f v h. ([], p, refl, no_tag, h.0, h.1)) tags_more_text tags_more_stop tags_some
+      (λ a e. absurd (let x : false ≡ true = e in cc)) (λ a e. absurd (let x : false ≡ true = e in cc)) (length w) tt w (omega arith)))
+
+  -- items
+
+  at_tag_item : (i : Items) (w : List Lexeme) → s.Tags ≡ front w → Good Fits (ItemText i) (ItemStop i) (By (read_tag_item i)) w (read_tag_item i w)
+  unfolding read_tag_item read_tags
+  at_tag_item i [] is = cc
+  at_tag_item i (t ∷ ts) is =
+      once_each Fits (ItemText i) (ItemStop i) i.tags (λ x. mark is_colon (drop 1 x) >>= λ v. read_tags v >>= λ u. Ok (record i { tags = true }, u)) (t ∷ ts) (no_item_yet i, refl, refl)
+      (λ e. behind_token Fits (λ x b. ItemText i (t ∷ x) b) (ItemText i) (λ p f z. ItemStop i (t ∷ p) f z) (ItemStop i)
+      (By (λ x. mark is_colon x >>= λ v. read_tags v >>= λ u. Ok (record i { tags = true }, u))) (By (λ x. mark is_colon (drop 1 x) >>= λ v. read_tags v >>= λ u. Ok (record i { tags = true }, u))) t ts (mark is_colon ts >>= λ v. read_tags v >>= λ u. Ok (record i { tags = true }, u))
+      (λ x b h. h) (λ p f z h. h) (λ x q h. h)
+      (past-then Fits (IsOne is_colon) (StopsAt is_colon expected_by) (mark is_colon) (λ v. read_tags v >>= λ u. Ok (record i { tags = true }, u)) (λ x b. ItemText i (t ∷ x) b) (λ p f z. ItemStop i (t ∷ p) f z) ts (mark is_colon ts) (λ v. read_tags v >>= λ u. Ok (record i { tags = true }, u))
+      (at_mark Fits is_colon colon_class ts)
+      (λ p f z h. subst (λ q. ItemStop i (t ∷ q) f z) (sym h.0) (row e (t ∷ []) f z (head, tt) h.1))
+      (λ u v eu h. past_value Fits (λ x a. ItemText i (t ∷ u ++ x) (record i { tags = true })) (λ x b. ItemText i (t ∷ u ++ x) b) (λ p f z. ItemStop i (t ∷ u ++ p) f z) (λ p f z. ItemStop i (t ∷ u ++ p) f z) read_tags (record i { tags = true }) v (read_tags v)
+      (λ x m. m) (λ p f z m. m)
+      (past-past Fits (IsOne is_name) (StopsAt is_name expected_by) (mark is_name) (λ x. passes is_comma tag_turn (length x) x) (λ x a. ItemText i (t ∷ u ++ x) (record i { tags = true })) (λ p f z. ItemStop i (t ∷ u ++ p) f z) v (mark is_name v) (λ x. passes is_comma tag_turn (length x) x)
+      (at_mark Fits is_name name_class v)
+      (λ p f z m. subst (λ q. ItemStop i (t ∷ q ++ p) f z) (sym h.1) (subst (λ q. ItemStop i (t ∷ h.0 ∷ q) f z) (sym m.0) (row e (t ∷ h.0 ∷ []) f z (head, (h.2, tt)) m.1)))
+      (λ x z ez m. weaker Fits (MoreTags tt) (λ y a. ItemText i (t ∷ u ++ (x ++ y)) (record i { tags = true })) (TagsStop tt) (λ p f r. ItemStop i (t ∷ u ++ (x ++ p)) f r) (Passed (λ y. passes is_comma tag_turn (length y) y)) (Passed (λ y. passes is_comma tag_turn (length y) y)) z (valued (passes is_comma tag_turn (length z) z))
+      (λ y a more. text e u x y h.0 m.0 h.1 m.1 h.2 m.2 more)
+      (λ p f r st. stop e u x p f r h.0 m.0 h.1 m.1 h.2 m.2 st)
+      (λ y q o. o) (at_more_tags z))))))
+      where
+        head : is_tags t.symbol ≡ true
+        head = ap is_tags (sym is)
+
+        classes : Classes (is_tags ∷ is_colon ∷ is_name ∷ [])
+        classes = (tags_class, (colon_class, (name_class, tt)))
+
+        row : i.tags ≡ false → (p : List Lexeme) (f : TextFault) (z : List Lexeme) → BeginsRow (is_tags ∷ is_colon ∷ is_name ∷ []) p → f ≡ expected z → ItemStop i p f z
+        row e p f z begun fault = (at_tags i p e begun, fault, begins_row_quiet (is_tags ∷ is_colon ∷ is_name ∷ []) classes p begun)
+
+        text : i.tags ≡ false → (u x y : List Lexeme) (c m : Lexeme) → u ≡ c ∷ [] → x ≡ m ∷ [] → is_colon c.symbol ≡ true → is_name m.symbol ≡ true → IsMoreTags y → ItemText i (t ∷ u ++ (x ++ y)) (record i { tags = true })
+        text e u x y c m eu ex ic im more =
+            subst (λ q. ItemText i (t ∷ q ++ (x ++ y)) (record i { tags = true })) (sym eu) (subst (λ q. ItemText i (t ∷ c ∷ q ++ y) (record i { tags = true })) (sym ex)
+            (is_tags_item i t c m y e (head, (ic, (im, tt))) more, ends-append (t ∷ c ∷ m ∷ []) y (row_quiet (is_tags ∷ is_colon ∷ is_name ∷ []) classes (t ∷ c ∷ m ∷ []) (head, (ic, (im, tt)))) (tags_quiet y more)))
+
+        stop : i.tags ≡ false → (u x p : List Lexeme) (f : TextFault) (r : List Lexeme) (c m : Lexeme) → u ≡ c ∷ [] → x ≡ m ∷ [] → is_colon c.symbol ≡ true → is_name m.symbol ≡ true → TagsStop tt p f r → ItemStop i (t ∷ u ++ (x ++ p)) f r
+        stop e u x p f r c m eu ex ic im (w, q, ep, more, begun, fault) =
+            subst (λ z. ItemStop i (t ∷ z ++ (x ++ p)) f r) (sym eu) (subst (λ z. ItemStop i (t ∷ c ∷ z ++ p) f r) (sym ex) (subst (λ z. ItemStop i (t ∷ c ∷ m ∷ z) f r) (sym ep)
+            (in_tags i t c m w q e (head, (ic, (im, tt))) more begun, fault,
+            ends-append (t ∷ c ∷ m ∷ []) (w ++ q) (row_quiet (is_tags ∷ is_colon ∷ is_name ∷ []) classes (t ∷ c ∷ m ∷ []) (head, (ic, (im, tt))))
+            (ends-append w q (tags_quiet w more) (begins_row_quiet (is_comma ∷ is_name ∷ []) (comma_class, (name_class, tt)) q begun)))))
+
+  at_semantics_item : (i : Items) (w : List Lexeme) → s.Semantics ≡ front w → Good Fits (ItemText i) (ItemStop i) (By (read_semantics_item i)) w (read_semantics_item i w)
+  unfolding read_semantics_item
+  at_semantics_item i [] is = cc
+  at_semantics_item i (t ∷ ts) is =
+      once_each Fits (ItemText i) (ItemStop i) (is_some i.semantics) (λ x. mark is_colon (drop 1 x) >>= λ v. read_semantics v >>= λ r. Ok (record i { semantics = Some r.0 }, r.1)) (t ∷ ts) (no_item_yet i, refl, refl)
+      (λ e. behind_token Fits (λ x b. ItemText i (t ∷ x) b) (ItemText i) (λ p f z. ItemStop i (t ∷ p) f z) (ItemStop i)
+      (By (λ x. mark is_colon x >>= λ v. read_semantics v >>= λ r. Ok (record i { semantics = Some r.0 }, r.1))) (By (λ x. mark is_colon (drop 1 x) >>= λ v. read_semantics v >>= λ r. Ok (record i { semantics = Some r.0 }, r.1))) t ts (mark is_colon ts >>= λ v. read_semantics v >>= λ r. Ok (record i { semantics = Some r.0 }, r.1))
+      (λ x b h. h) (λ p f z h. h) (λ x q h. h)
+      (past-then Fits (IsOne is_colon) (StopsAt is_colon expected_by) (mark is_colon) (λ v. read_semantics v >>= λ r. Ok (record i { semantics = Some r.0 }, r.1)) (λ x b. ItemText i (t ∷ x) b) (λ p f z. ItemStop i (t ∷ p) f z) ts (mark is_colon ts) (λ v. read_semantics v >>= λ r. Ok (record i { semantics = Some r.0 }, r.1))
+      (at_mark Fits is_colon colon_class ts)
+      (λ p f z h. subst (λ q. ItemStop i (t ∷ q) f z) (sym h.0) (at_semantics i (t ∷ []) (none_of i.semantics e) (head, tt), h.1, begins_row_quiet (is_semantics ∷ is_colon ∷ []) classes (t ∷ []) (head, tt)))
+      (λ u v eu h. map_value Fits SemanticsText (λ x b. ItemText i (t ∷ u ++ x) b) SemanticsStop (λ p f z. ItemStop i (t ∷ u ++ p) f z) read_semantics (λ x. record i { semantics = Some x }) v (read_semantics v)
+      (λ x b m. subst (λ q. ItemText i (t ∷ q ++ x) (record i { semantics = Some b })) (sym h.1)
+      (is_semantics_item i t h.0 x b (none_of i.semantics e) (head, (h.2, tt)) m.0, ends-append (t ∷ h.0 ∷ []) x (row_quiet (is_semantics ∷ is_colon ∷ []) classes (t ∷ h.0 ∷ []) (head, (h.2, tt))) m.1))
+      (λ p f z m. subst (λ q. ItemStop i (t ∷ q ++ p) f z) (sym h.1)
+      (in_semantics i t h.0 p (none_of i.semantics e) (head, (h.2, tt)) m.0, m.1, ends-append (t ∷ h.0 ∷ []) p (row_quiet (is_semantics ∷ is_colon ∷ []) classes (t ∷ h.0 ∷ []) (head, (h.2, tt))) m.2))
+      (at_semantics_text v))))
+      where
+        head : is_semantics t.symbol ≡ true
+        head = ap is_semantics (sym is)
+
+        classes : Classes (is_semantics ∷ is_colon ∷ [])
+        classes = (semantics_class, (colon_class, tt))
+
+  at_target_item : (i : Items) (w : List Lexeme) → s.Target ≡ front w → Good Fits (ItemText i) (ItemStop i) (By (read_target_item i)) w (read_target_item i w)
+  unfolding read_target_item
+  at_target_item i [] is = cc
+  at_target_item i (t ∷ ts) is =
+      once_each Fits (ItemText i) (ItemStop i) (is_some i.target) (λ x. mark is_colon (drop 1 x) >>= λ v. read_kind v >>= λ r. Ok (record i { target = Some r.0 }, r.1)) (t ∷ ts) (no_item_yet i, refl, refl)
+      (λ e. behind_token Fits (λ x b. ItemText i (t ∷ x) b) (ItemText i) (λ p f z. ItemStop i (t ∷ p) f z) (ItemStop i)
+      (By (λ x. mark is_colon x >>= λ v. read_kind v >>= λ r. Ok (record i { target = Some r.0 }, r.1))) (By (λ x. mark is_colon (drop 1 x) >>= λ v. read_kind v >>= λ r. Ok (record i { target = Some r.0 }, r.1))) t ts (mark is_colon ts >>= λ v. read_kind v >>= λ r. Ok (record i { target = Some r.0 }, r.1))
+      (λ x b h. h) (λ p f z h. h) (λ x q h. h)
+      (past-then Fits (IsOne is_colon) (StopsAt is_colon expected_by) (mark is_colon) (λ v. read_kind v >>= λ r. Ok (record i { target = Some r.0 }, r.1)) (λ x b. ItemText i (t ∷ x) b) (λ p f z. ItemStop i (t ∷ p) f z) ts (mark is_colon ts) (λ v. read_kind v >>= λ r. Ok (record i { target = Some r.0 }, r.1))
+      (at_mark Fits is_colon colon_class ts)
+      (λ p f z h. subst (λ q. ItemStop i (t ∷ q) f z) (sym h.0) (stop e (t ∷ []) f z (head, tt) h.1))
+      (λ u v eu h. map_value Fits KindText (λ x b. ItemText i (t ∷ u ++ x) b) AtOnce (λ p f z. ItemStop i (t ∷ u ++ p) f z) read_kind (λ x. record i { target = Some x }) v (read_kind v)
+      (λ x b m. text e u x h.0 h.1 h.2 b m)
+      (λ p f z m. subst (λ q. ItemStop i (t ∷ q ++ p) f z) (sym h.1) (subst (λ q. ItemStop i (t ∷ h.0 ∷ q) f z) (sym m.0) (stop e (t ∷ h.0 ∷ []) f z (head, (h.2, tt)) m.1)))
+      (at_kind v))))
+      where
+        head : is_target t.symbol ≡ true
+        head = ap is_target (sym is)
+
+        classes : Classes (is_target ∷ is_colon ∷ is_kind ∷ [])
+        classes = (target_class, (colon_class, (kind_class, tt)))
+
+        stop : is_some i.target ≡ false → (p : List Lexeme) (f : TextFault) (z : List Lexeme) → BeginsRow (is_target ∷ is_colon ∷ is_kind ∷ []) p → f ≡ expected z → ItemStop i p f z
+        stop e p f z begun fault = (in_target i p (none_of i.target e) begun, fault, begins_row_quiet (is_target ∷ is_colon ∷ is_kind ∷ []) classes p begun)
+
+        text : is_some i.target ≡ false → (u x : List Lexeme) (c : Lexeme) → u ≡ c ∷ [] → is_colon c.symbol ≡ true → (b : PlacedTarget) → KindText x b → ItemText i (t ∷ u ++ x) (record i { target = Some b })
+        text e u x c eu ic b (m, kind, ex, im, eb) =
+            subst (λ (z : PlacedTarget). ItemText i (t ∷ u ++ x) (record i { target = Some z })) (sym eb)
+            (subst (λ q. ItemText i (t ∷ q ++ x) (record i { target = Some (record { target = kind; place = m.from }) })) (sym eu)
+            (subst (λ q. ItemText i (t ∷ c ∷ q) (record i { target = Some (record { target = kind; place = m.from }) })) (sym ex)
+            (is_target_item i t c m kind (none_of i.target e) (head, (ic, tt)) im, row_quiet (is_target ∷ is_colon ∷ is_kind ∷ []) classes (t ∷ c ∷ m ∷ []) (head, (ic, (ap is_kind im, tt))))))
+
+  item-go : (y : Symbol) (i : Items) (w : List Lexeme) → y ≡ front w → Good Fits (ItemText i) (ItemStop i) (By (item_by y i)) w (item_by y i w)
+  item-go s.Title i w is = at_title i w is
+  item-go s.Description i w is = at_description i w is
+  item-go s.Semantics i w is = at_semantics_item i w is
+  item-go s.Target i w is = at_target_item i w is
+  item-go s.Tags i w is = at_tag_item i w is
+  item-go y i w is = at_unexpected Fits (ItemText i) (ItemStop i) w (no_item_yet i, refl, refl)
+
+  pub at_item : (i : Items) (w : List Lexeme) → Good Fits (ItemText i) (ItemStop i) (By (read_item i)) w (read_item i w)
+  unfolding read_item
+  at_item i w = choose Fits (ItemText i) (ItemStop i) (λ y. item_by y i) (front w) w (item_by (front w) i w) refl (item-go (front w) i w refl)
