@@ -18,8 +18,9 @@ use Rattle.tlsf_basic.specs.Headings.{is_strict, is_name, read_string, kind_by, 
 use Rattle.tlsf_basic.specs.Rows.{IsRow, BeginsRow}
 use Rattle.tlsf_basic.specs.TextGrammar.{IsSemantics, kind_alone, kind_first, strict_first, IsMoreTags, no_tag, tag_more, IsItem, is_title_item, is_description_item, is_semantics_item, is_target_item, is_tags_item, IsItems, no_item, item_more, IsHeading, is_heading}
 use Rattle.tlsf_basic.specs.TextBegins.{BeginsSemantics, in_kind_first, in_strict_first, BeginsItem, no_item_yet, in_title, in_description, at_semantics, in_semantics, in_target, at_tags, in_tags, BeginsItems, in_items, BeginsHeading, at_info, in_info, whole_heading}
+use Rattle.tlsf_basic.specs.TextFaults.{LacksInHeading, no_info, no_semantics, no_target}
 use Rattle.tlsf_basic.proofs.Good.{Texts, Stops, Others, By, Passed, valued, unvalued, Alike, Good, weaker, behind_token, then, past-then, past-past, past_value, once_each, gives, map_value, at_front, at_unexpected, choose, IsOne, StopsAt, token, at_token}
-use Rattle.tlsf_basic.proofs.Loops.{run, loop, Looped, bind_assoc, by_valued, passes_run, from_valued}
+use Rattle.tlsf_basic.proofs.Loops.{run, loop, Looped, bind_assoc, halt_of, by_valued, passes_run, from_valued}
 use Rattle.tlsf_basic.proofs.Stopping.{ends_by, ends_operand, ends-append, Operand, Lacks, no_lack, Stop, not_expected, not_parenthesized, at_depth, lacking, Carried, stop_behind}
 use Rattle.tlsf_basic.proofs.RowFacts.{Class, Classes, title_class, description_class, semantics_class, target_class, tags_class, colon_class, text_class, comma_class, kind_class, strict_class, name_class, info_class, open_brace_class, close_brace_class, row_quiet, begins_row_quiet, RowStop, at_mark, at_pair}
 
@@ -345,3 +346,159 @@ module _ (Fits : TextFault → Type 0) where
   pub at_item : (i : Items) (w : List Lexeme) → Good Fits (ItemText i) (ItemStop i) (By (read_item i)) w (read_item i w)
   unfolding read_item
   at_item i w = choose Fits (ItemText i) (ItemStop i) (λ y. item_by y i) (front w) w (item_by (front w) i w) refl (item-go (front w) i w refl)
+
+-- the word of a part and its brace
+pub data HeadStop (is : Symbol → Bool) (part : Part) (p : List Lexeme) (f : TextFault) (v : List Lexeme) : Type 0 where
+  at_word : p ≡ [] → f ≡ missing part v → HeadStop is part p f v
+  at_brace : (a : Lexeme) → p ≡ a ∷ [] → is a.symbol ≡ true → f ≡ expected v → HeadStop is part p f v
+
+abbrev pub HeadText : (Symbol → Bool) → Texts (Unit {0})
+HeadText is u x = (a : Lexeme) × (b : Lexeme) × (u ≡ a ∷ b ∷ []) × IsRow (is ∷ is_open_brace ∷ []) (a ∷ b ∷ [])
+
+module _ (Fits : TextFault → Type 0) (is : Symbol → Bool) (k : Class is) (part : Part) where
+  at_part_word : (w : List Lexeme) → Good Fits (IsOne is) (StopsAt is (missing_by part)) (Passed (part_word is part)) w (valued (part_word is part w))
+  unfolding part_word
+  at_part_word w = at_token Fits is (missing_by part) k.no_end w
+
+  pub at_head : (w : List Lexeme) → Good Fits (HeadText is) (HeadStop is part) (Passed (λ x. part_word is part x >>= mark is_open_brace)) w (valued (part_word is part w >>= mark is_open_brace))
+  at_head w =
+      past-past Fits (IsOne is) (StopsAt is (missing_by part)) (part_word is part) (mark is_open_brace) (HeadText is) (HeadStop is part) w (part_word is part w) (mark is_open_brace)
+      (at_part_word w) (λ p f v h. at_word h.0 h.1)
+      (λ u v e h. weaker Fits (IsOne is_open_brace) (λ x b. HeadText is (u ++ x) b) (StopsAt is_open_brace expected_by) (λ p f z. HeadStop is part (u ++ p) f z) (Passed (mark is_open_brace)) (Passed (mark is_open_brace)) v (valued (mark is_open_brace v))
+      (λ x b m. (h.0, m.0, ap (λ q. u ++ q) m.1 ∙ ap (λ q. q ++ m.0 ∷ []) h.1, (h.2, (m.2, tt))))
+      (λ p f z m. at_brace h.0 (ap (λ q. u ++ q) m.0 ∙ append-nil u ∙ h.1) h.2 m.1) (λ x q o. o) (at_mark Fits is_open_brace open_brace_class v))
+
+-- the items up to the closing brace
+
+pub close_is : (y : Symbol) → in_braces y ≡ false → y ≡ s.CloseBrace
+close_is s.CloseBrace e = refl
+close_is y e = cc
+
+pub item_some : (i : Items) (w : List Lexeme) (j : Items) → IsItem i w j → 0 < length w
+item_some i w j (is_title_item k [] e row) = absurd row
+item_some i w j (is_title_item k (t ∷ ts) e row) = omega arith
+item_some i w j (is_description_item k [] e row) = absurd row
+item_some i w j (is_description_item k (t ∷ ts) e row) = omega arith
+item_some i w j (is_semantics_item k a c v x e row y) = omega arith
+item_some i w j (is_target_item k a c t x e row y) = omega arith
+item_some i w j (is_tags_item k a c t v e row y) = omega arith
+
+abbrev pub MissingItem : Part → Items → Type 0
+MissingItem part.Semantics j = j.semantics ≡ None
+MissingItem part.Target j = ((x : Semantics) × (j.semantics ≡ Some x)) × (j.target ≡ None)
+MissingItem _ j = ⊥
+
+abbrev ItemsLack : Items → Lacks
+ItemsLack i part p v = (j : Items) × (c : Lexeme) × (r : List Lexeme) × IsItems i p j × (v ≡ c ∷ r) × (is_close_brace c.symbol ≡ true) × MissingItem part j
+
+abbrev ItemsText : Items → Texts Heading
+ItemsText i u h = (w : List Lexeme) × (c : Lexeme) × (j : Items) × (u ≡ w ++ c ∷ []) × IsItems i w j × (j.semantics ≡ Some h.semantics) × (j.target ≡ Some h.target) × (is_close_brace c.symbol ≡ true) × Quiet w
+
+abbrev ItemsStop : ℕ → Items → Stops
+ItemsStop n i = Stop (ItemsLack i) (λ m. BeginsItems i) n
+
+items_carried : (n : ℕ) (i j : Items) (u : List Lexeme) → IsItem i u j → Carried (λ m. BeginsItems j) (λ m. BeginsItems i) n u
+items_carried n i j u x m r le (in_items j' k w v xs b) = subst (BeginsItems i) (append_assoc u w v) (in_items i k (u ++ w) v (item_more i j' k u w x xs) b)
+
+items_begun : (i : Items) → BeginsItems i []
+items_begun i = in_items i i [] [] (no_item i) (no_item_yet i)
+
+closes_heading : (i : Items) (c : Lexeme) (us : List Lexeme) → c.symbol ≡ s.CloseBrace → close_heading i (c ∷ us) ≡ heading_by i.semantics i.target (c ∷ us)
+unfolding close_heading
+closes_heading i c us is = ap (λ y. cond (in_braces y) (unexpected (c ∷ us)) (heading_by i.semantics i.target (c ∷ us))) is
+
+closes_alike : (i : Items) (a : Option Semantics) (b : Option PlacedTarget) (c : Lexeme) (ts v : List Lexeme) → c.symbol ≡ s.CloseBrace → i.semantics ≡ a → i.target ≡ b → (f : TextFault) → ((x : List Lexeme) → heading_by a b x ≡ Err (f, x)) → Alike (c ∷ ts) v → close_heading i v ≡ Err (f, v)
+closes_alike i a b c ts [] is ea eb f fails al = absurd al
+closes_alike i a b c ts (u ∷ us) is ea eb f fails al =
+    closes_heading i u us (ap (λ x. x.symbol) (sym al) ∙ is) ∙ ap (λ z. heading_by z i.target (u ∷ us)) ea ∙ ap (λ z. heading_by a z (u ∷ us)) eb ∙ fails (u ∷ us)
+
+module _ (Fits : TextFault → Type 0) (n : ℕ) where
+  items_closed : (i : Items) (w : List Lexeme) → in_braces (front w) ≡ false → Good Fits (ItemsText i) (ItemsStop n i) (By (close_heading i)) w (close_heading i w)
+  items_closed i [] e = cc
+  items_closed i (c ∷ ts) e =
+      subst (Good Fits (ItemsText i) (ItemsStop n i) (By (close_heading i)) (c ∷ ts)) (sym (closes_heading i c ts is)) (go i.semantics i.target refl refl) where
+      is : c.symbol ≡ s.CloseBrace
+      is = close_is c.symbol e
+
+      go : (a : Option Semantics) (b : Option PlacedTarget) → i.semantics ≡ a → i.target ≡ b → Good Fits (ItemsText i) (ItemsStop n i) (By (close_heading i)) (c ∷ ts) (heading_by a b (c ∷ ts))
+      go None b ea eb =
+          ([], refl, lacking part.Semantics (items_begun i) (ap (missing_by part.Semantics) (sym is)) (i, c, ts, no_item i, refl, ap is_close_brace is, ea),
+          λ fits v al. closes_alike i None b c ts v is ea eb _ (λ x. refl) al)
+      go (Some a) None ea eb =
+          ([], refl, lacking part.Target (items_begun i) (ap (missing_by part.Target) (sym is)) (i, c, ts, no_item i, refl, ap is_close_brace is, ((a, ea), eb)),
+          λ fits v al. closes_alike i (Some a) None c ts v is ea eb _ (λ x. refl) al)
+      go (Some a) (Some b) ea eb =
+          (c ∷ [], refl, ([], c, i, refl, no_item i, ea, eb, ap is_close_brace is, refl),
+          λ v al. closes_heading i c v is ∙ ap (λ z. heading_by z i.target (c ∷ v)) ea ∙ ap (λ z. heading_by (Some a) z (c ∷ v)) eb)
+
+  items_more_text : (i : Items) (u : List Lexeme) (j : Items) (v : List Lexeme) (h : Heading) → ItemText i u j → ItemsText j v h → ItemsText i (u ++ v) h
+  items_more_text i u j v h (x, quiet) (w, c, k, e, xs, es, et, ic, q) =
+      (u ++ w, c, k, ap (λ z. u ++ z) e ∙ sym (append_assoc u w (c ∷ [])), item_more i j k u w x xs, es, et, ic, ends-append u w quiet q)
+
+  items_more_stop : (i : Items) (u : List Lexeme) (j : Items) (p : List Lexeme) (f : TextFault) (v : List Lexeme) → ItemText i u j → ItemsStop n j p f v → ItemsStop n i (u ++ p) f v
+  items_more_stop i u j p f v (x, quiet) stop =
+      stop_behind (ItemsLack j) (ItemsLack i) (λ m. BeginsItems j) (λ m. BeginsItems i) n u p f v (items_carried n i j u x) (ends-append u p quiet)
+      (λ part h. (h.0, h.1, h.2, item_more i j h.0 u p x h.3, h.4, h.5, h.6)) stop
+
+  items_stuck : (i : Items) → in_braces s.End ≡ true → (e : Halt) × (read_item i [] ≡ Err e) × (close_heading i [] ≡ Err e)
+  unfolding read_item close_heading
+  items_stuck i go = ((expected [], []), refl, refl)
+
+  items_stuck' : (i : Items) → in_braces s.End ≡ true → (h : Halt) → read_item i [] ≡ Err h → close_heading i [] ≡ Err h
+  unfolding read_item close_heading
+  items_stuck' i go h e = ap (λ r. Err (halt_of r)) e
+
+  abbrev heading_run : List Lexeme → Read Heading
+  heading_run w = run in_braces read_item close_heading (length w) no_items w
+
+  at_items : (w : List Lexeme) → Good Fits (ItemsText no_items) (ItemsStop n no_items) (By heading_run) w (heading_run w)
+  at_items w =
+      weaker Fits (ItemsText no_items) (ItemsText no_items) (ItemsStop n no_items) (ItemsStop n no_items) (λ x q. (k : ℕ) → length x ≤ k → run in_braces read_item close_heading k no_items x ≡ q) (By heading_run) w (heading_run w)
+      (λ u a h. h) (λ p f v h. h) (λ x q h. h (length x) (omega arith))
+      (loop Fits in_braces read_item read_item close_heading close_heading ItemText ItemStop ItemsText (ItemsStop n)
+      (λ i w go. at_item Fits i w) items_closed (λ i p f v h. not_expected (in_items i i [] p (no_item i) h.0) h.1 h.2)
+      items_more_text items_more_stop (λ i u j h. item_some i u j h.0) items_stuck items_stuck' (length w) no_items w (omega arith))
+
+  abbrev pub HeadingTextOf : Texts Heading
+  HeadingTextOf u h = IsHeading u h × Quiet u
+
+  abbrev pub HeadingStop : Stops
+  HeadingStop = Stop LacksInHeading (λ m. BeginsHeading) n
+
+  head_stop : (p : List Lexeme) (f : TextFault) (v : List Lexeme) → HeadStop is_info part.Info p f v → HeadingStop p f v
+  head_stop p f v (at_word e fault) = subst (λ q. HeadingStop q f v) (sym e) (lacking part.Info (at_info [] tt) fault (no_info v))
+  head_stop p f v (at_brace a e is fault) = subst (λ q. HeadingStop q f v) (sym e) (not_expected (at_info (a ∷ []) (is, tt)) fault (begins_row_quiet (is_info ∷ is_open_brace ∷ []) (info_class, (open_brace_class, tt)) (a ∷ []) (is, tt)))
+
+  lack_in_heading : (a b : Lexeme) → IsRow (is_info ∷ is_open_brace ∷ []) (a ∷ b ∷ []) → (p v : List Lexeme) (which : Part) → ItemsLack no_items which p v → LacksInHeading which (a ∷ b ∷ p) v
+  lack_in_heading a b row p v part.Semantics (j, c, r, xs, ev, ic, none) = subst (LacksInHeading part.Semantics (a ∷ b ∷ p)) (sym ev) (no_semantics a b p j c r row xs ic none)
+  lack_in_heading a b row p v part.Target (j, c, r, xs, ev, ic, (some, none)) = subst (LacksInHeading part.Target (a ∷ b ∷ p)) (sym ev) (no_target a b p j c r some.0 row xs ic some.1 none)
+  lack_in_heading a b row p v which (j, c, r, xs, ev, ic, none) = absurd none
+
+  pub at_heading : (w : List Lexeme) → Good Fits HeadingTextOf HeadingStop (By read_heading) w (read_heading w)
+  unfolding read_heading read_items
+  at_heading w =
+      subst (Good Fits HeadingTextOf HeadingStop (By read_heading) w) (sym (same w))
+      (weaker Fits HeadingTextOf HeadingTextOf HeadingStop HeadingStop (By (λ x. part_word is_info part.Info x >>= mark is_open_brace >>= heading_run)) (By read_heading) w (part_word is_info part.Info w >>= mark is_open_brace >>= heading_run)
+      (λ u a h. h) (λ p f v h. h) (λ x q h. same x ∙ h)
+      (past-then Fits (HeadText is_info) (HeadStop is_info part.Info) (λ x. part_word is_info part.Info x >>= mark is_open_brace) heading_run HeadingTextOf HeadingStop w (part_word is_info part.Info w >>= mark is_open_brace) heading_run
+      (at_head Fits is_info info_class part.Info w) head_stop
+      (λ u v e h. weaker Fits (ItemsText no_items) (λ x b. HeadingTextOf (u ++ x) b) (ItemsStop n no_items) (λ p f z. HeadingStop (u ++ p) f z) (By heading_run) (By heading_run) v (heading_run v)
+      (λ x b m. text u h.0 h.1 h.2 h.3 x b m) (λ p f z m. stop u h.0 h.1 h.2 h.3 p f z m) (λ x q o. o) (at_items v))))
+      where
+        same : (x : List Lexeme) → read_heading x ≡ (part_word is_info part.Info x >>= mark is_open_brace >>= heading_run)
+        same x = bind_assoc (part_word is_info part.Info x >>= mark is_open_brace) read_items (λ r. close_heading r.0 r.1)
+
+        text : (u : List Lexeme) (a b : Lexeme) → u ≡ a ∷ b ∷ [] → IsRow (is_info ∷ is_open_brace ∷ []) (a ∷ b ∷ []) → (x : List Lexeme) (h : Heading) → ItemsText no_items x h → HeadingTextOf (u ++ x) h
+        text u a b eu row x h (w1, c, j, e, xs, es, et, ic, q) =
+            subst (λ z. HeadingTextOf (z ++ x) h) (sym eu) (subst (λ z. HeadingTextOf (a ∷ b ∷ z) h) (sym e)
+            (is_heading a b c w1 j h.semantics h.target row xs es et ic,
+            ends-append (a ∷ b ∷ []) (w1 ++ c ∷ []) (row_quiet (is_info ∷ is_open_brace ∷ []) (info_class, (open_brace_class, tt)) (a ∷ b ∷ []) row)
+            (ends-append w1 (c ∷ []) q (row_quiet (is_close_brace ∷ []) (close_brace_class, tt) (c ∷ []) (ic, tt)))))
+
+        stop : (u : List Lexeme) (a b : Lexeme) → u ≡ a ∷ b ∷ [] → IsRow (is_info ∷ is_open_brace ∷ []) (a ∷ b ∷ []) → (p : List Lexeme) (f : TextFault) (z : List Lexeme) → ItemsStop n no_items p f z → HeadingStop (u ++ p) f z
+        stop u a b eu row p f z st =
+            subst (λ q. HeadingStop (q ++ p) f z) (sym eu)
+            (stop_behind (ItemsLack no_items) LacksInHeading (λ m. BeginsItems no_items) (λ m. BeginsHeading) n (a ∷ b ∷ []) p f z
+            (λ m r le b'. in_info a b r row b')
+            (ends-append (a ∷ b ∷ []) p (row_quiet (is_info ∷ is_open_brace ∷ []) (info_class, (open_brace_class, tt)) (a ∷ b ∷ []) row))
+            (λ which h. lack_in_heading a b row p z which h) st)

@@ -1,6 +1,7 @@
 -- Turns up to what closes them.
 use Rattle.std.proofs.Common.{◌≡◌, ℕ, zero, suc, ◌<◌, ◌≤◌, Bool, true, false, cond, List, [], ◌∷◌, ◌++◌, length, Result, Ok, Err, sym, refl, ap, ◌∙◌, subst, arith, length-append}
 use Rattle.tlsf_basic.specs.declared.faults.TextFault.{TextFault}
+use Rattle.tlsf_basic.specs.declared.faults.TextFault.TheVariants.{Expected}
 use Rattle.tlsf_basic.specs.declared.symbols.Symbol.{Symbol}
 use Rattle.tlsf_basic.specs.declared.symbols.Symbol.TheVariants as s
 use Rattle.tlsf_basic.specs.declared.symbols.Lexeme.{Lexeme}
@@ -11,6 +12,10 @@ use Rattle.tlsf_basic.proofs.Good.{Texts, Stops, Others, By, valued, unvalued, f
 pub bind_assoc : {A B C : Type 0} (r : Result A Halt) (f : A → Result B Halt) (g : B → Result C Halt) → (r >>= f >>= g) ≡ (r >>= λ x. f x >>= g)
 bind_assoc (Ok x) f g = refl
 bind_assoc (Err e) f g = refl
+
+abbrev pub halt_of : {A : Type 0} → Result A Halt → Halt
+halt_of (Ok x) = (Expected, [])
+halt_of (Err h) = h
 
 pub length_zero : {A : Type 0} (w : List A) → length w ≤ 0 → w ≡ []
 length_zero [] h = refl

@@ -10,5 +10,6 @@ pub mod Rows
 pub mod Signals
 pub mod Specification
 pub mod TextBegins
+pub mod TextFaults
 pub mod TextGrammar
 pub mod Words
