@@ -7,6 +7,7 @@ pub mod HeadingGood
 pub mod Kept
 pub mod Lift
 pub mod Loops
+pub mod MainGood
 pub mod Numbered
 pub mod RowFacts
 pub mod Stopping
