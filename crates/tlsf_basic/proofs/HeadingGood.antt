@@ -448,7 +448,7 @@ module _ (Fits : TextFault → Type 0) (n : ℕ) where
   unfolding read_item close_heading
   items_stuck' i go h e = ap (λ r. Err (halt_of r)) e
 
-  abbrev heading_run : List Lexeme → Read Heading
+  abbrev pub heading_run : List Lexeme → Read Heading
   heading_run w = run in_braces read_item close_heading (length w) no_items w
 
   at_items : (w : List Lexeme) → Good Fits (ItemsText no_items) (ItemsStop n no_items) (By heading_run) w (heading_run w)

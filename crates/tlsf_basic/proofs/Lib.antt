@@ -11,5 +11,6 @@ pub mod MainGood
 pub mod Numbered
 pub mod RowFacts
 pub mod Stopping
+pub mod TextRead
 pub mod Turns
 pub mod WordLemmas

@@ -175,7 +175,7 @@ part_quiet (is_inputs_part i a b c w e row xs ic) = closed_quiet (a ∷ b ∷ w)
 part_quiet (is_outputs_part i a b c w e row xs ic) = closed_quiet (a ∷ b ∷ w) c ic
 part_quiet (is_section_part i kind a b c w after is ib xs ic) = closed_quiet (a ∷ b ∷ w) c ic
 
-part_some : {n : ℕ} {i : Parts} {w : List Lexeme} {j : Parts} → IsPart n i w j → 0 < length w
+pub part_some : {n : ℕ} {i : Parts} {w : List Lexeme} {j : Parts} → IsPart n i w j → 0 < length w
 part_some (is_inputs_part i a b c w e row xs ic) = omega arith
 part_some (is_outputs_part i a b c w e row xs ic) = omega arith
 part_some (is_section_part i kind a b c w after is ib xs ic) = omega arith
@@ -201,11 +201,11 @@ section_is : (y : Symbol) → is_section y ≡ true → (kind : Section) × (y �
 section_is (s.Section kind) e = (kind, refl)
 section_is y e = cc
 
-closes_main : (i : Parts) (c : Lexeme) (us : List Lexeme) → c.symbol ≡ s.CloseBrace → close_main i (c ∷ us) ≡ cond (not i.inputs) (Err (MissingPart part.Inputs, c ∷ us)) (cond (not i.outputs) (Err (MissingPart part.Outputs, c ∷ us)) (Ok (i.sections, us)))
+pub closes_main : (i : Parts) (c : Lexeme) (us : List Lexeme) → c.symbol ≡ s.CloseBrace → close_main i (c ∷ us) ≡ cond (not i.inputs) (Err (MissingPart part.Inputs, c ∷ us)) (cond (not i.outputs) (Err (MissingPart part.Outputs, c ∷ us)) (Ok (i.sections, us)))
 unfolding close_main
 closes_main i c us is = ap (λ y. cond (in_braces y) (unexpected (c ∷ us)) (cond (not i.inputs) (Err (MissingPart part.Inputs, c ∷ us)) (cond (not i.outputs) (Err (MissingPart part.Outputs, c ∷ us)) (Ok (i.sections, us))))) is
 
-abbrev sides : Bool → Bool → Sections → List Lexeme → List Lexeme → Read Sections
+abbrev pub sides : Bool → Bool → Sections → List Lexeme → List Lexeme → Read Sections
 sides a b all w us = cond (not a) (Err (MissingPart part.Inputs, w)) (cond (not b) (Err (MissingPart part.Outputs, w)) (Ok (all, us)))
 
 main_alike : (i : Parts) (a b : Bool) (c : Lexeme) (ts v : List Lexeme) → c.symbol ≡ s.CloseBrace → i.inputs ≡ a → i.outputs ≡ b → (f : TextFault) → ((x us : List Lexeme) → sides a b i.sections x us ≡ Err (f, x)) → Alike (c ∷ ts) v → close_main i v ≡ Err (f, v)
@@ -414,7 +414,7 @@ module _ (Fits : TextFault → Type 0) (n m : ℕ) (le : n ≤ m) (fits : Fits T
   part_here : (i : Parts) (p : List Lexeme) (f : TextFault) (v : List Lexeme) → PartStop n i p f v → PartsStop n i p f v
   part_here i p f v stop = stop_behind no_lack (PartsLack n i) (λ k. BeginsPart k i) (λ k. BeginsParts k i) n [] p f v (λ k r h b. in_parts i i [] r (no_part i) b) (λ h. h) (λ part x. absurd x) stop
 
-  abbrev main_run : ℕ → List Lexeme → Read Sections
+  abbrev pub main_run : ℕ → List Lexeme → Read Sections
   main_run k w = run in_braces (read_part k) close_main (length w) no_parts w
 
   at_parts : (w : List Lexeme) → Good Fits (PartsText n no_parts) (PartsStop n no_parts) (By (main_run m)) w (main_run n w)
