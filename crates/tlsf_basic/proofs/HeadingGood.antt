@@ -62,7 +62,7 @@ comma_is : (y : Symbol) → is_comma y ≡ true → y ≡ s.Comma
 comma_is s.Comma e = refl
 comma_is y e = cc
 
-kind_is : (y : Symbol) → is_kind y ≡ true → (kind : Target) × (y ≡ s.Kind kind)
+pub kind_is : (y : Symbol) → is_kind y ≡ true → (kind : Target) × (y ≡ s.Kind kind)
 kind_is (s.Kind kind) e = (kind, refl)
 kind_is y e = cc
 

@@ -20,7 +20,7 @@ use Rattle.tlsf_basic.specs.declared.headings.Heading.{Heading}
 use Rattle.tlsf_basic.specs.declared.mains.Sections.{Sections}
 use Rattle.tlsf_basic.specs.declared.mains.Parts.{Parts}
 use Rattle.tlsf_basic.specs.Reads.{Halt, Read, Past, ◌>>=◌, front, unexpected, turns, passes}
-use Rattle.tlsf_basic.specs.Marks.{mark, closing, part_word, end, is_and, is_or, is_close, is_colon, is_text, is_comma, is_open_brace, is_close_brace, is_semicolon, is_declared, is_info, is_main, is_end, in_braces}
+use Rattle.tlsf_basic.specs.Marks.{mark, closing, part_word, end, is_and, is_or, is_close, is_colon, is_text, is_comma, is_open_brace, is_close_brace, is_semicolon, is_declared, is_info, is_main, in_braces}
 use Rattle.tlsf_basic.specs.Formulas.{with_unary, with_lone, Deeper, atom_by, read_atom, read_prefixed, read_parens, unary_by, read_unary, one_more, read_conjuncts, all_by, read_all_from, read_all, read_disjuncts, any_by, read_any_from, read_implied, arrow_by, read_arrow_from, read_arrow, read_second, formula_by, read_formula, nested}
 use Rattle.tlsf_basic.specs.Headings.{read_string, kind_by, read_kind, is_strict, strict_by, semantics_by, read_semantics, is_name, read_tags, read_title, read_description, read_tag_item, read_semantics_item, read_target_item, item_by, read_item, no_items, read_items, heading_by, close_heading, read_heading}
 use Rattle.tlsf_basic.specs.declared.faults.TextFault.{TextFault}
@@ -99,7 +99,8 @@ module _ (P : Lexeme → Type 0) (T : ℕ → Type 0) (Q : Ltl → Type 0) (carr
 
   at_end : (w : List Lexeme) → All P w → KeepsPast (end w)
   unfolding end
-  at_end w all = split-past (is_end (front w)) (Ok w) (unexpected w) all all
+  at_end [] all = all
+  at_end (t ∷ w) all = all
 
   at_turns : {S : Type 0} (R : S → Type 0) (goes : Symbol → Bool) (turn : S → List Lexeme → Read S) → ((state : S) (w : List Lexeme) → R state → All P w → Keeps R (turn state w)) → (n : ℕ) (state : S) (w : List Lexeme) → R state → All P w → Keeps R (turns goes turn n state w)
   unfolding turns

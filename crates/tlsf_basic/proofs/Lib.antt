@@ -11,6 +11,8 @@ pub mod MainGood
 pub mod Numbered
 pub mod RowFacts
 pub mod Stopping
+pub mod TextGood
 pub mod TextRead
+pub mod TextWhole
 pub mod Turns
 pub mod WordLemmas

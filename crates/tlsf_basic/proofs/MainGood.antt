@@ -40,7 +40,7 @@ names_quiet : (w : List Lexeme) → IsNames w → Quiet w
 names_quiet w no_name = refl
 names_quiet w (name_more t c v row more) = ends-append (t ∷ c ∷ []) v (row_quiet NamesRow names_classes (t ∷ c ∷ []) row) (names_quiet v more)
 
-row_two : (x y : Symbol → Bool) (u : List Lexeme) → IsRow (x ∷ y ∷ []) u → (a : Lexeme) × (b : Lexeme) × (u ≡ a ∷ b ∷ []) × IsRow (x ∷ y ∷ []) (a ∷ b ∷ [])
+pub row_two : (x y : Symbol → Bool) (u : List Lexeme) → IsRow (x ∷ y ∷ []) u → (a : Lexeme) × (b : Lexeme) × (u ≡ a ∷ b ∷ []) × IsRow (x ∷ y ∷ []) (a ∷ b ∷ [])
 row_two x y [] h = absurd h
 row_two x y (a ∷ []) h = absurd h.1
 row_two x y (a ∷ b ∷ []) h = (a, b, refl, h)
@@ -167,7 +167,7 @@ entry_operand n f u text =
 entry_quiet : (u w : List Lexeme) (c : Lexeme) → u ≡ w ++ c ∷ [] → is_semicolon c.symbol ≡ true → Quiet u
 entry_quiet u w c e is = subst Quiet (sym e) (ends-last w c [] ∙ semicolon_class.quiet c.symbol is)
 
-closed_quiet : (w : List Lexeme) (c : Lexeme) → is_close_brace c.symbol ≡ true → Quiet (w ++ c ∷ [])
+pub closed_quiet : (w : List Lexeme) (c : Lexeme) → is_close_brace c.symbol ≡ true → Quiet (w ++ c ∷ [])
 closed_quiet w c is = ends-last w c [] ∙ close_brace_class.quiet c.symbol is
 
 part_quiet : {n : ℕ} {i : Parts} {w : List Lexeme} {j : Parts} → IsPart n i w j → Quiet w
@@ -197,7 +197,7 @@ PartsStop n i = Stop (PartsLack n i) (λ m. BeginsParts m i) n
 parts_carried : (n : ℕ) (i j : Parts) (u : List Lexeme) → IsPart n i u j → Carried (λ m. BeginsParts m j) (λ m. BeginsParts m i) n u
 parts_carried n i j u x m r le (in_parts j' k w v xs b) = subst (BeginsParts m i) (append_assoc u w v) (in_parts i k (u ++ w) v (part_more i j' k u w (lift_part x m le) xs) b)
 
-section_is : (y : Symbol) → is_section y ≡ true → (kind : Section) × (y ≡ s.Section kind)
+pub section_is : (y : Symbol) → is_section y ≡ true → (kind : Section) × (y ≡ s.Section kind)
 section_is (s.Section kind) e = (kind, refl)
 section_is y e = cc
 

@@ -1,5 +1,5 @@
 -- Single tokens.
-use Rattle.std.specs.Prelude.{Bool, true, false, not, List, Ok, Err, drop, if◌then◌else◌}
+use Rattle.std.specs.Prelude.{Bool, true, false, not, List, [], ◌∷◌, Ok, Err, drop, if◌then◌else◌}
 use Rattle.tlsf_basic.specs.declared.faults.Part.{Part}
 use Rattle.tlsf_basic.specs.declared.symbols.Symbol.{Symbol}
 use Rattle.tlsf_basic.specs.declared.symbols.Symbol.TheVariants as s
@@ -54,10 +54,6 @@ abbrev pub is_main : Symbol → Bool
 is_main s.Main = true
 is_main _ = false
 
-abbrev pub is_end : Symbol → Bool
-is_end s.End = true
-is_end _ = false
-
 -- a token of this kind, and no other
 unfoldable pub mark : (Symbol → Bool) → List Lexeme → Past
 mark is w = (if is (front w) then Ok (drop 1 w) else unexpected w)
@@ -72,7 +68,8 @@ part_word is part w = (if is (front w) then Ok (drop 1 w) else Err (missing part
 
 -- nothing more
 unfoldable pub end : List Lexeme → Past
-end w = (if is_end (front w) then Ok w else unexpected w)
+end [] = Ok []
+end (t ∷ w) = unexpected (t ∷ w)
 
 -- a list in braces goes on up to the closing one
 abbrev pub in_braces : Symbol → Bool
