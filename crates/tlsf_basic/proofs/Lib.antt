@@ -1,3 +1,4 @@
+pub mod Exact
 pub mod FormulaGood
 pub mod FormulaOperand
 pub mod FormulaRead

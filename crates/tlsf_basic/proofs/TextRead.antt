@@ -66,7 +66,7 @@ class_is_outputs : (y : Symbol) → is_outputs y ≡ true → y ≡ s.Outputs
 class_is_outputs s.Outputs e = refl
 class_is_outputs y e = cc
 
-class_is_close_brace : (y : Symbol) → is_close_brace y ≡ true → y ≡ s.CloseBrace
+pub class_is_close_brace : (y : Symbol) → is_close_brace y ≡ true → y ≡ s.CloseBrace
 class_is_close_brace s.CloseBrace e = refl
 class_is_close_brace y e = cc
 
