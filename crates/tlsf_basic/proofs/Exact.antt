@@ -29,6 +29,9 @@ use Rattle.tlsf_basic.proofs.TextWhole.{text_whole}
 abbrev Text : Type 0
 Text = Heading × Sections
 
+abbrev failed : Halt → Result Text Halt
+failed h = Err h
+
 -- lists
 
 abbrev first_of : Lexeme → List Lexeme → Lexeme
@@ -310,3 +313,143 @@ module _ (w : List Lexeme) (f : TextFault) (v : List Lexeme) (is : read_text 256
   kind_found (not_parenthesized b fault (q, u, g, e, x, open_)) = kind_of_misplaced (is_full (front v)) (is_operator (front v)) refl refl fault (256, q, u, g, e, x, λ o h. (257, open_ o h))
   kind_found (at_depth t rest b fault ev more) = absurd (shallow fault)
   kind_found (lacking which b fault lack) = kind_of_missing (is_full (front v)) which refl fault (256, lack)
+
+  kind_full_same : is_full (front v) ≡ true → TextStop 256 front_tokens f v → f ≡ FullFormat
+  kind_full_same full (not_expected b fault quiet) = fault ∙ expected_full (front v) full
+  kind_full_same full (not_parenthesized b fault operand) = fault ∙ misplaced_full (front v) full
+  kind_full_same full (at_depth t rest b fault ev more) = absurd (shallow fault)
+  kind_full_same full (lacking which b fault lack) = fault ∙ missing_full which (front v) full
+
+  kind_operator_same : is_operator (front v) ≡ true → ((which : Part) → LacksPart front_tokens v which → ⊥) → EndsOperand front_tokens → TextStop 256 front_tokens f v → f ≡ NeedsParens
+  kind_operator_same op none ends (not_expected b fault quiet) = absurd (clash (sym (operand_ends front_tokens ends) ∙ quiet)) where
+      clash : true ≡ false → ⊥
+      clash e = cc
+  kind_operator_same op none ends (not_parenthesized b fault operand) = fault ∙ misplaced_operator (front v) op
+  kind_operator_same op none ends (at_depth t rest b fault ev more) = absurd (shallow fault)
+  kind_operator_same op none ends (lacking which b fault lack) = absurd (none which (256, lack))
+
+  misplaced_same : (c : Bool) → is_operator (front v) ≡ c → is_full (front v) ≡ false → (is_operator (front v) ≡ true → ⊥) → misplaced v ≡ Expected
+  misplaced_same true op plain never = absurd (never op)
+  misplaced_same false op plain never = misplaced_other (front v) plain op
+
+  kind_other_same : is_full (front v) ≡ false → ((which : Part) → LacksPart front_tokens v which → ⊥) → (EndsOperand front_tokens → is_operator (front v) ≡ true → ⊥) → TextStop 256 front_tokens f v → f ≡ Expected
+  kind_other_same plain none never (not_expected b fault quiet) = fault ∙ expected_other (front v) plain
+  kind_other_same plain none never (not_parenthesized b fault (q, u, g, e, x, open_)) =
+      fault ∙ misplaced_same (is_operator (front v)) refl plain (never (256, q, u, g, e, x, λ o h. (257, open_ o h)))
+  kind_other_same plain none never (at_depth t rest b fault ev more) = absurd (shallow fault)
+  kind_other_same plain none never (lacking which b fault lack) = absurd (none which (256, lack))
+
+  -- the relation determines the kind
+  kind_same : (g : TextFault) → IsKind front_tokens v g → TextStop 256 front_tokens f v → f ≡ g
+  kind_same g (of_full full) stop = kind_full_same full stop
+  kind_same g (of_missing which plain lack) stop = lack_plain which plain lack
+  kind_same g (of_operator plain none ends op) stop = kind_operator_same op none ends stop
+  kind_same g (of_other plain none never) stop = kind_other_same plain none never stop
+
+stop_begins : {n : ℕ} {p : List Lexeme} {f : TextFault} {v : List Lexeme} → TextStop n p f v → BeginsText n p
+stop_begins (not_expected b fault quiet) = b
+stop_begins (not_parenthesized b fault operand) = b
+stop_begins (at_depth t rest b fault ev more) = b
+stop_begins (lacking which b fault lack) = b
+
+-- either it is the nesting, or another fault
+data Depth (p : List Lexeme) (f : TextFault) (v : List Lexeme) : Type 0 where
+  too_deep : (t : Lexeme) (rest : List Lexeme) → f ≡ TooDeep → v ≡ t ∷ rest → Begins (p ++ t ∷ []) → Depth p f v
+  no_deeper : Shallow f → Depth p f v
+
+depth_of : (p : List Lexeme) (f : TextFault) (v : List Lexeme) → TextStop 256 p f v → Depth p f v
+depth_of p f v (not_expected b fault quiet) = no_deeper (λ e. expected_shallow (front v) (sym fault ∙ e))
+depth_of p f v (not_parenthesized b fault operand) = no_deeper (λ e. misplaced_shallow (front v) (sym fault ∙ e))
+depth_of p f v (at_depth t rest b fault ev more) = too_deep t rest fault ev (257, more)
+depth_of p f v (lacking which b fault lack) = no_deeper (λ e. missing_shallow which (front v) (sym fault ∙ e))
+
+not_nil : (t : Lexeme) (w : List Lexeme) → t ∷ w ≡ [] → ⊥
+not_nil t w e = absurd (omega (arith, ap length e))
+
+-- each text that is read is one of the grammar
+pub found_text : (w : List Lexeme) (x : Text) → read_text 256 w ≡ Ok x → IsText 256 w x
+found_text w x is = subst (Outcome Any 256 256 (omega arith) (λ h. refl) w) is (outcome Any 256 256 (omega arith) (λ h. refl) w)
+
+-- and each one of the grammar is read
+pub only_text : (w : List Lexeme) (x : Text) → IsText 256 w x → read_text 256 w ≡ Ok x
+only_text w x text = text_read 256 256 w x text (omega arith)
+
+-- a fault stands where the relation has it
+pub found_fault : (w : List Lexeme) (f : TextFault) (v : List Lexeme) → read_text 256 w ≡ Err (f, v) → IsGrammarFault w f v
+found_fault w f v is = go (depth_of p f v stop) where
+    p : List Lexeme
+    p = before w f v is
+
+    stop : TextStop 256 p f v
+    stop = stopped w f v is
+
+    go : Depth p f v → IsGrammarFault w f v
+    go (too_deep t rest fault ev more) =
+        subst (λ z. IsGrammarFault z f v) (sym (split_at w f v is))
+        (subst (λ z. IsGrammarFault (p ++ z) f z) (sym ev) (subst (λ z. IsGrammarFault (p ++ t ∷ rest) z (t ∷ rest)) (sym fault)
+        (deep_token p t rest (stop_begins stop, λ q r e b. longest_within w f v is q r (ev ∙ e) b) more)))
+    go (no_deeper sh) =
+        subst (λ z. IsGrammarFault z f v) (sym (split_at w f v is))
+        (bad_token p v f (stop_begins stop) ((256, stop_begins stop), λ q r e b. longest w f v is sh q r e b) (subst IsNoText (split_at w f v is) (no_text w f v is sh)) (kind_found w f v is sh stop))
+
+text_begins : (n : ℕ) (w : List Lexeme) (x : Text) → IsText n w x → BeginsText n w
+text_begins n w x (is_whole_text u v h all head main) = behind_heading u v h head (whole_main v all main)
+
+-- the same tokens before, and the same behind
+abbrev SamePlace : List Lexeme → List Lexeme → List Lexeme → List Lexeme → Type 0
+SamePlace p v q r = (p ≡ q) × (v ≡ r)
+
+same_place : (p v q r : List Lexeme) → ((x : List Lexeme) → q ≡ p ++ x → v ≡ x ++ r → x ≡ []) → ((x : List Lexeme) → p ≡ q ++ x → r ≡ x ++ v → x ≡ []) → Compared p v q r → SamePlace p v q r
+same_place p v q r one two (no_shorter x e k) =
+    let none = one x e k in (sym (e ∙ ap (λ z. p ++ z) none ∙ append-nil p), k ∙ ap (λ z. z ++ r) none)
+same_place p v q r one two (no_longer x e k) =
+    let none = two x e k in (e ∙ ap (λ z. q ++ z) none ∙ append-nil q, sym (k ∙ ap (λ z. z ++ v) none))
+
+bad_only : (p v : List Lexeme) (f g : TextFault) (r : List Lexeme) → read_text 256 (p ++ v) ≡ Err (g, r) → IsLongest Begins p v → BeginsText 256 p → IsKind p v f → failed (g, r) ≡ failed (f, v)
+bad_only p v f g r is lon b kind = go (depth_of q g r stop) where
+    q : List Lexeme
+    q = before (p ++ v) g r is
+
+    stop : TextStop 256 q g r
+    stop = stopped (p ++ v) g r is
+
+    same : SamePlace p v q r
+    same = same_place p v q r
+      (λ x e k. lon.1 x r k (256, subst (BeginsText 256) e (stop_begins stop)))
+      (λ x e k. longest_within (p ++ v) g r is x v k (subst (BeginsText 256) e b))
+      (compare p v q r (split_at (p ++ v) g r is))
+
+    go : Depth q g r → failed (g, r) ≡ failed (f, v)
+    go (too_deep t rest fault ev more) =
+        absurd (not_nil t [] (lon.1 (t ∷ []) rest (same.1 ∙ ev) (subst (λ z. Begins (z ++ t ∷ [])) (sym same.0) more)))
+    go (no_deeper sh) =
+        ap (λ z. Err (z, r)) (kind_same (p ++ v) g r is sh f (subst (λ z. IsKind z r f) same.0 (subst (λ z. IsKind p z f) same.1 kind)) stop)
+        ∙ ap (λ z. Err (f, z)) (sym same.1)
+
+deep_only : (p : List Lexeme) (t : Lexeme) (v : List Lexeme) (g : TextFault) (r : List Lexeme) → read_text 256 (p ++ t ∷ v) ≡ Err (g, r) → IsLongest (BeginsText 256) p (t ∷ v) → Begins (p ++ t ∷ []) → failed (g, r) ≡ failed (TooDeep, t ∷ v)
+deep_only p t v g r is lon more = go (depth_of q g r stop) where
+    q : List Lexeme
+    q = before (p ++ t ∷ v) g r is
+
+    stop : TextStop 256 q g r
+    stop = stopped (p ++ t ∷ v) g r is
+
+    same : SamePlace p (t ∷ v) q r
+    same = same_place p (t ∷ v) q r
+      (λ x e k. lon.1 x r k (subst (BeginsText 256) e (stop_begins stop)))
+      (λ x e k. longest_within (p ++ t ∷ v) g r is x (t ∷ v) k (subst (BeginsText 256) e lon.0))
+      (compare p (t ∷ v) q r (split_at (p ++ t ∷ v) g r is))
+
+    go : Depth q g r → failed (g, r) ≡ failed (TooDeep, t ∷ v)
+    go (too_deep u rest fault ev more') = ap (λ z. Err (z, r)) fault ∙ ap (λ z. Err (TooDeep, z)) (sym same.1)
+    go (no_deeper sh) =
+        absurd (not_nil t [] (longest (p ++ t ∷ v) g r is sh (t ∷ []) v (sym same.1) (subst (λ z. Begins (z ++ t ∷ [])) same.0 more)))
+
+by_result : (w : List Lexeme) (f : TextFault) (v : List Lexeme) (x : Result Text Halt) → read_text 256 w ≡ x → IsGrammarFault w f v → x ≡ Err (f, v)
+by_result w f v (Ok y) is (bad_token p v' f' b lon none kind) = absurd (none 256 y (found_text w y is))
+by_result w f v (Ok y) is (deep_token p t v' lon more) = absurd (not_nil t v' (lon.1 (t ∷ v') [] (sym (append-nil (t ∷ v'))) (text_begins 256 w y (found_text w y is))))
+by_result w f v (Err h) is (bad_token p v' f' b lon none kind) = bad_only p v f h.0 h.1 is lon b kind
+by_result w f v (Err h) is (deep_token p t v' lon more) = deep_only p t v' h.0 h.1 is lon more
+
+pub only_fault : (w : List Lexeme) (f : TextFault) (v : List Lexeme) → IsGrammarFault w f v → read_text 256 w ≡ Err (f, v)
+only_fault w f v fault = by_result w f v (read_text 256 w) refl fault
