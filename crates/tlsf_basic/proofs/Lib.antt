@@ -11,6 +11,7 @@ pub mod Loops
 pub mod MainGood
 pub mod Numbered
 pub mod RowFacts
+pub mod Numbers
 pub mod Stopping
 pub mod TextGood
 pub mod TextRead

@@ -1,5 +1,7 @@
 -- Declared names, and the numbers of names in formulas.
-use Rattle.std.specs.Prelude.{◌≡◌, ℕ, ◌<◌, Bool, true, false}
+use Rattle.std.specs.Prelude.{◌≡◌, ℕ, ◌<◌, min, Bool, true, false, List, [], ◌∷◌, ◌++◌, map, filter, position, fold, slice_range, Option, Some, None, if◌then◌else◌}
+use Rattle.std.specs.List.{list_any}
+use Rattle.std.specs.Str.{bytes_eq}
 use Rattle.tlsf_basic.specs.declared.symbols.Side.TheVariants.{Input, Output}
 use Rattle.tlsf_basic.specs.declared.symbols.Symbol.{Symbol}
 use Rattle.tlsf_basic.specs.declared.symbols.Symbol.TheVariants as s
@@ -36,3 +38,38 @@ IsSymbolFresh _ = Unit {0}
 
 abbrev pub IsFresh : Lexeme → Type 0
 IsFresh l = IsSymbolFresh l.symbol
+
+-- the bytes of a lexeme
+abbrev pub name_of : List ℕ → Lexeme → List ℕ
+name_of text l = slice_range text l.from l.to
+
+abbrev pub inputs_of : List Lexeme → List Lexeme
+inputs_of w = filter (λ l. is_input l.symbol) w
+
+abbrev pub outputs_of : List Lexeme → List Lexeme
+outputs_of w = filter (λ l. is_output l.symbol) w
+
+-- a name behind the others, unless it is one of them
+abbrev pub with_name : List (List ℕ) → List ℕ → List (List ℕ)
+with_name names name = if list_any (bytes_eq name) names then names else names ++ name ∷ []
+
+-- the names in order, each at its first place
+abbrev pub each_once : List (List ℕ) → List (List ℕ)
+each_once names = fold with_name [] names
+
+-- the declared names, the inputs first
+abbrev pub declared_of : List ℕ → List Lexeme → List (List ℕ)
+declared_of text w = map (name_of text) (inputs_of w) ++ map (name_of text) (outputs_of w)
+
+-- a number that has no 32 bits is the greatest that has
+abbrev pub signal_at : Option ℕ → Symbol
+signal_at None = s.Unknown
+signal_at (Some k) = s.Signal (min k 4294967295)
+
+-- a name of a formula gets its place among the declared names
+abbrev pub numbered_by : List ℕ → List (List ℕ) → Lexeme → Lexeme
+numbered_by text names l =
+    (if is_unknown l.symbol then record { symbol = signal_at (position (bytes_eq (name_of text l)) names); «from» = l.from; to = l.to } else l)
+
+unfoldable pub numbered : List ℕ → List Lexeme → List Lexeme
+numbered text w = map (numbered_by text (each_once (declared_of text w))) w

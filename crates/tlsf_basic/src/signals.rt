@@ -1,9 +1,11 @@
 //! Declared names, and their numbers in formulas.
 
 ghost use Rattle.std.specs.Prelude.{◌≡◌, ℕ, ◌<◌, ◌≤◌, ◌+◌, All, IfOk, IfSome, IfNone, OnOk, filter, length, slice_range, vec_len, string_bytes, encode_utf8_all};
-ghost use Rattle.indexmap.specs.IndexSet.{index_set_len};
+ghost use Rattle.std.specs.Prelude.{map, position, fold};
+ghost use Rattle.std.specs.Str.{bytes_eq};
+ghost use Rattle.indexmap.specs.IndexSet.{index_set_len, keys};
 ghost use Rattle.tlsf_basic.specs.Words.{SpanWithin};
-ghost use Rattle.tlsf_basic.specs.Signals.{is_input, is_output, is_unknown, IsSymbolBelow, IsSignalBelow, IsFresh, IsKnown};
+ghost use Rattle.tlsf_basic.specs.Signals.{is_input, is_output, is_unknown, inputs_of, outputs_of, name_of, with_name, numbered_by, numbered, signal_at, IsSymbolBelow, IsSignalBelow, IsFresh, IsKnown};
 
 use crate::symbols::{Lexeme, Side, Symbol};
 use indexmap::IndexSet;
@@ -75,7 +77,8 @@ fn add_names<'a>(
     lexemes: &[Lexeme],
 ) -> Result<(), AllocError>
     requires { All (SpanWithin (length text.now)) lexemes.now }
-    ensures { OnOk result (index_set_len names.new ≤ index_set_len names.old + length lexemes.now) }
+    ensures len { OnOk result (index_set_len names.new ≤ index_set_len names.old + length lexemes.now) }
+    ensures names { OnOk result (map (λ k. k.now) (keys names.new) ≡ fold with_name (map (λ k. k.now) (keys names.old)) (map (name_of text.now) lexemes.now)) }
 {
     for lexeme in lexemes {
         let _ = names.insert_full(bytes_of(text, *lexeme))?;
@@ -94,6 +97,9 @@ pub fn numbered(
     requires outputs { All (SpanWithin (length text.now)) declared.now.outputs.items }
     requires all { All (SpanWithin (length text.now)) lexemes.now }
     requires fresh { All IsFresh lexemes.now }
+    requires are_inputs { declared.now.inputs.items ≡ inputs_of lexemes.now }
+    requires are_outputs { declared.now.outputs.items ≡ outputs_of lexemes.now }
+    ensures value { IfOk result (λ w. w.items ≡ numbered text.now lexemes.now) }
     ensures within { IfOk result (λ w. All (SpanWithin (length text.now)) w.items) }
     ensures below { IfOk result (λ w. All (IsSignalBelow (vec_len declared.now.inputs + vec_len declared.now.outputs)) w.items) }
 {
@@ -111,6 +117,7 @@ fn numbered_by<'a>(
 ) -> Result<Vec<Lexeme>, AllocError>
     requires within { All (SpanWithin (length text.now)) lexemes.now }
     requires fresh { All IsFresh lexemes.now }
+    ensures value { IfOk result (λ w. w.items ≡ map (numbered_by text.now (map (λ k. k.now) (keys names.now))) lexemes.now) }
     ensures within { IfOk result (λ w. All (SpanWithin (length text.now)) w.items) }
     ensures below { IfOk result (λ w. All (IsSignalBelow (index_set_len names.now)) w.items) }
 {
@@ -124,6 +131,7 @@ fn numbered_by<'a>(
 fn numbered_one<'a>(text: &'a [u8], names: &NameSet<'a>, lexeme: Lexeme) -> Lexeme
     requires within { SpanWithin (length text.now) lexeme }
     requires fresh { IsFresh lexeme }
+    ensures value { result ≡ numbered_by text.now (map (λ k. k.now) (keys names.now)) lexeme }
     ensures within { SpanWithin (length text.now) result }
     ensures below { IsSignalBelow (index_set_len names.now) result }
 {
@@ -139,7 +147,8 @@ fn numbered_one<'a>(text: &'a [u8], names: &NameSet<'a>, lexeme: Lexeme) -> Lexe
 
 /// What a name in a formula is.
 fn symbol_of<'a>(names: &NameSet<'a>, name: &'a [u8]) -> Symbol
-    ensures { IsSymbolBelow (index_set_len names.now) result }
+    ensures value { result ≡ signal_at (position (bytes_eq name.now) (map (λ k. k.now) (keys names.now))) }
+    ensures below { IsSymbolBelow (index_set_len names.now) result }
 {
     match names.get_index_of(&name) {
         Some(index) => Symbol::Signal(u32::try_from(index).unwrap_or(u32::MAX)),
