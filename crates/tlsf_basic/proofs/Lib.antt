@@ -1,4 +1,5 @@
 pub mod Exact
+pub mod Firsts
 pub mod FormulaGood
 pub mod FormulaOperand
 pub mod FormulaRead

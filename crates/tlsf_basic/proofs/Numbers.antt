@@ -1,6 +1,6 @@
 -- The names in order, and the number of each.
 use Rattle.std.proofs.Common.{◌≡◌, ℕ, suc, ◌<◌, ◌≤◌, ◌+◌, min, Bool, true, false, not, cond, List, [], ◌∷◌, ◌++◌, length, take, map, get_or, Bor, nat_lt, Option, Some, None, Result, Ok, Err, sym, refl, ap, ◌∙◌, subst, arith}
-use Rattle.std.specs.Prelude.{◌||◌, fold, position, OkIff}
+use Rattle.std.specs.Prelude.{◌||◌, ◌&&◌, fold, position, OkIff}
 use Rattle.std.specs.Result.{result_unwrap_or}
 use Rattle.std.specs.List.{list_any, position_or_len}
 use Rattle.std.specs.Str.{bytes_eq}
@@ -15,7 +15,7 @@ use Rattle.tlsf_basic.specs.Signals.{with_name, name_of, each_once, inputs_of, o
 abbrev pub seen : List (Bor (List ℕ)) → List (List ℕ)
 seen ks = map (λ k. k.now) ks
 
-any-seen : (test : List ℕ → Bool) (ks : List (Bor (List ℕ))) → list_any test (seen ks) ≡ list_any (λ k. test k.now) ks
+pub any-seen : (test : List ℕ → Bool) (ks : List (Bor (List ℕ))) → list_any test (seen ks) ≡ list_any (λ k. test k.now) ks
 any-seen test [] = refl
 any-seen test (k ∷ ks) = ap (λ b. test k.now || b) (any-seen test ks)
 
@@ -66,3 +66,12 @@ both_sides text w none inputs outputs ins outs en ei eo e1 e2 =
     e2 ∙ ap (λ z. fold with_name inputs (map (name_of text) z)) eo
     ∙ ap (λ z. fold with_name z (map (name_of text) (outputs_of w))) (e1 ∙ ap (λ z. fold with_name z (map (name_of text) ins)) en ∙ ap (λ z. fold with_name [] (map (name_of text) z)) ei)
     ∙ sym (fold-append with_name [] (map (name_of text) (inputs_of w)) (map (name_of text) (outputs_of w)))
+
+-- whether a name wasn't new
+pub found_is : (new : Bool) (ks : List (Bor (List ℕ))) (k : Bor (List ℕ)) (name : List ℕ) (d : Bool) → new ≡ not (list_any (same_name k) ks) → k.now ≡ name → d ≡ true → not new ≡ (d && list_any (bytes_eq name) (seen ks))
+found_is new ks k name d added e declared =
+    ap not added ∙ not_twice (list_any (same_name k) ks) ∙ sym (any-seen (bytes_eq k.now) ks) ∙ ap (λ n. list_any (bytes_eq n) (seen ks)) e
+    ∙ ap (λ b. b && list_any (bytes_eq name) (seen ks)) (sym declared) where
+      not_twice : (b : Bool) → not (not b) ≡ b
+      not_twice true = refl
+      not_twice false = refl
