@@ -11,6 +11,7 @@ pub mod Lift
 pub mod Loops
 pub mod MainGood
 pub mod Numbered
+pub mod Refusals
 pub mod RowFacts
 pub mod Numbers
 pub mod Stopping
