@@ -8,7 +8,8 @@ use Rattle.tlsf_basic.specs.declared.symbols.Symbol.TheVariants as s
 use Rattle.tlsf_basic.specs.declared.symbols.Lexeme.{Lexeme}
 use Rattle.tlsf_basic.specs.Reads.{Halt, Read, ◌>>=◌, front, turns}
 use Rattle.tlsf_basic.specs.Marks.{is_and, is_or, is_close, closing}
-use Rattle.tlsf_basic.specs.Formulas.{with_unary, with_lone, Deeper, atom_by, read_atom, read_prefixed, read_parens, unary_by, read_unary, one_more, read_conjuncts, all_by, read_all_from, read_all, read_disjuncts, any_by, read_any_from, read_implied, arrow_by, read_arrow_from, read_arrow, read_second, formula_by, read_formula, nested}
+use Rattle.tlsf_basic.specs.Formulas.{Deeper, atom_by, read_atom, read_prefixed, read_parens, unary_by, read_unary, one_more, read_conjuncts, all_by, read_all_from, read_all, read_disjuncts, any_by, read_any_from, read_implied, arrow_by, read_arrow_from, read_arrow, read_second, formula_by, read_formula, nested}
+use Rattle.tlsf_basic.specs.Values.{with_unary, with_lone}
 use Rattle.tlsf_basic.specs.Grammar.{atom_value, all_of, any_of, IsUnary, is_atom, is_parens, is_prefixed, IsAnds, no_and, and_more, IsAll, is_all, IsOrs, no_or, or_more, IsAny, is_any, IsArrow, is_last, is_implied, IsFormula, is_arrow, is_lone}
 use Rattle.tlsf_basic.proofs.Turns.{turns_end, one_turn}
 

@@ -5,7 +5,7 @@ use Rattle.ltl_form.specs.declared.formulas.Ltl.TheVariants as ltl
 use Rattle.tlsf_basic.specs.declared.symbols.Symbol.{Symbol}
 use Rattle.tlsf_basic.specs.declared.symbols.Symbol.TheVariants as s
 use Rattle.tlsf_basic.specs.declared.symbols.Lexeme.{Lexeme}
-use Rattle.tlsf_basic.specs.Formulas.{with_unary, with_lone}
+use Rattle.tlsf_basic.specs.Values.{with_unary, with_lone}
 use Rattle.tlsf_basic.specs.Marks.{is_close}
 use Rattle.tlsf_basic.specs.Grammar.{all_of, any_of, IsUnary, is_atom, is_parens, is_prefixed, IsAnds, no_and, and_more, IsAll, is_all, IsOrs, no_or, or_more, IsAny, is_any, IsArrow, is_last, is_implied, IsFormula, is_arrow, is_lone}
 use Rattle.tlsf_basic.specs.Begins.{BeginsMark, no_mark, the_mark, BeginsUnary, nothing, atom_alone, in_parens, at_close, in_operand, BeginsAnds, whole_ands, in_and, BeginsAll, in_first, in_ands, BeginsOrs, whole_ors, in_or, BeginsAny, in_all, in_ors, BeginsArrow, in_any, in_right, BeginsFormula, in_arrow, in_second}

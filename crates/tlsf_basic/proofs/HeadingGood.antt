@@ -13,8 +13,9 @@ use Rattle.tlsf_basic.specs.declared.symbols.Symbol.{Symbol}
 use Rattle.tlsf_basic.specs.declared.symbols.Symbol.TheVariants as s
 use Rattle.tlsf_basic.specs.declared.symbols.Lexeme.{Lexeme}
 use Rattle.tlsf_basic.specs.Reads.{Halt, Read, Past, ◌>>=◌, front, expected_by, expected, unexpected, missing, missing_by, passes, turns}
-use Rattle.tlsf_basic.specs.Marks.{mark, part_word, in_braces, is_title, is_description, is_semantics, is_target, is_tags, is_colon, is_text, is_comma, is_kind, is_info, is_open_brace, is_close_brace}
-use Rattle.tlsf_basic.specs.Headings.{is_strict, is_name, read_string, kind_by, read_kind, strict_by, semantics_by, read_semantics, read_tags, read_title, read_description, read_tag_item, read_semantics_item, read_target_item, item_by, read_item, no_items, read_items, heading_by, close_heading, read_heading}
+use Rattle.tlsf_basic.specs.Marks.{mark, part_word, in_braces, is_title, is_description, is_semantics, is_target, is_tags, is_colon, is_text, is_comma, is_kind, is_info, is_open_brace, is_close_brace, is_strict, is_name}
+use Rattle.tlsf_basic.specs.Headings.{read_string, kind_by, read_kind, strict_by, semantics_by, read_semantics, read_tags, read_title, read_description, read_tag_item, read_semantics_item, read_target_item, item_by, read_item, read_items, heading_by, close_heading, read_heading}
+use Rattle.tlsf_basic.specs.Values.{no_items}
 use Rattle.tlsf_basic.specs.Rows.{IsRow, BeginsRow}
 use Rattle.tlsf_basic.specs.TextGrammar.{IsSemantics, kind_alone, kind_first, strict_first, IsMoreTags, no_tag, tag_more, IsItem, is_title_item, is_description_item, is_semantics_item, is_target_item, is_tags_item, IsItems, no_item, item_more, IsHeading, is_heading}
 use Rattle.tlsf_basic.specs.TextBegins.{BeginsSemantics, in_kind_first, in_strict_first, BeginsItem, no_item_yet, in_title, in_description, at_semantics, in_semantics, in_target, at_tags, in_tags, BeginsItems, in_items, BeginsHeading, at_info, in_info, whole_heading}

@@ -20,15 +20,16 @@ use Rattle.tlsf_basic.specs.declared.headings.Heading.{Heading}
 use Rattle.tlsf_basic.specs.declared.mains.Sections.{Sections}
 use Rattle.tlsf_basic.specs.declared.mains.Parts.{Parts}
 use Rattle.tlsf_basic.specs.Reads.{Halt, Read, Past, ◌>>=◌, front, unexpected, turns, passes}
-use Rattle.tlsf_basic.specs.Marks.{mark, closing, part_word, end, is_and, is_or, is_close, is_colon, is_text, is_comma, is_open_brace, is_close_brace, is_semicolon, is_declared, is_info, is_main, in_braces}
-use Rattle.tlsf_basic.specs.Formulas.{with_unary, with_lone, Deeper, atom_by, read_atom, read_prefixed, read_parens, unary_by, read_unary, one_more, read_conjuncts, all_by, read_all_from, read_all, read_disjuncts, any_by, read_any_from, read_implied, arrow_by, read_arrow_from, read_arrow, read_second, formula_by, read_formula, nested}
-use Rattle.tlsf_basic.specs.Headings.{read_string, kind_by, read_kind, is_strict, strict_by, semantics_by, read_semantics, is_name, read_tags, read_title, read_description, read_tag_item, read_semantics_item, read_target_item, item_by, read_item, no_items, read_items, heading_by, close_heading, read_heading}
+use Rattle.tlsf_basic.specs.Marks.{mark, closing, part_word, end, is_and, is_or, is_close, is_colon, is_text, is_comma, is_open_brace, is_close_brace, is_semicolon, is_declared, is_info, is_main, in_braces, is_strict, is_name}
+use Rattle.tlsf_basic.specs.Formulas.{Deeper, atom_by, read_atom, read_prefixed, read_parens, unary_by, read_unary, one_more, read_conjuncts, all_by, read_all_from, read_all, read_disjuncts, any_by, read_any_from, read_implied, arrow_by, read_arrow_from, read_arrow, read_second, formula_by, read_formula, nested}
+use Rattle.tlsf_basic.specs.Values.{with_unary, with_lone, no_items, added, no_sections, no_parts}
+use Rattle.tlsf_basic.specs.Headings.{read_string, kind_by, read_kind, strict_by, semantics_by, read_semantics, read_tags, read_title, read_description, read_tag_item, read_semantics_item, read_target_item, item_by, read_item, read_items, heading_by, close_heading, read_heading}
 use Rattle.tlsf_basic.specs.declared.faults.TextFault.{TextFault}
 use Rattle.tlsf_basic.specs.Words.{SpanWithin}
 use Rattle.tlsf_basic.specs.Specification.{place_of, IsPlaced}
 use Rattle.tlsf_basic.specs.declared.faults.TextError.{TextError}
 use Rattle.tlsf_basic.specs.declared.faults.TextError.TheVariants.{Fault, Memory}
-use Rattle.tlsf_basic.specs.Mains.{added, name_turn, read_names, read_declared, read_entry, read_entries, read_inputs, read_outputs, read_section, part_by, read_part, no_sections, no_parts, read_parts, close_main, read_main, read_text}
+use Rattle.tlsf_basic.specs.Mains.{name_turn, read_names, read_declared, read_entry, read_entries, read_inputs, read_outputs, read_section, part_by, read_part, read_parts, close_main, read_main, read_text}
 
 -- a fact of tokens, one of places and one of formulas, where reading gives the others from the first
 pub record Carries (P : Lexeme → Type 0) (T : ℕ → Type 0) (Q : Ltl → Type 0) : Type 0 where

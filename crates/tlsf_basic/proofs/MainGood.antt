@@ -14,7 +14,8 @@ use Rattle.tlsf_basic.specs.declared.mains.Parts.{Parts}
 use Rattle.tlsf_basic.specs.Reads.{Halt, Read, Past, ◌>>=◌, front, expected_by, expected, unexpected, misplaced_by, missing, missing_by, passes, turns}
 use Rattle.tlsf_basic.specs.Marks.{mark, closing, part_word, in_braces, is_main, is_open_brace, is_close_brace, is_declared, is_semicolon, is_inputs, is_outputs, is_section}
 use Rattle.tlsf_basic.specs.Formulas.{read_atom, read_unary, read_formula, nested}
-use Rattle.tlsf_basic.specs.Mains.{added, name_turn, read_names, read_declared, read_entry, read_entries, read_inputs, read_outputs, read_section, part_by, read_part, no_parts, read_parts, close_main, read_main}
+use Rattle.tlsf_basic.specs.Mains.{name_turn, read_names, read_declared, read_entry, read_entries, read_inputs, read_outputs, read_section, part_by, read_part, read_parts, close_main, read_main}
+use Rattle.tlsf_basic.specs.Values.{added, no_parts}
 use Rattle.tlsf_basic.specs.Rows.{IsRow, BeginsRow}
 use Rattle.tlsf_basic.specs.Grammar.{IsFormula}
 use Rattle.tlsf_basic.specs.Begins.{BeginsMark, no_mark, the_mark, nothing, in_first, in_all, in_any, in_arrow, BeginsFormula}

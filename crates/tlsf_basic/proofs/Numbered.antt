@@ -15,7 +15,7 @@ use Rattle.tlsf_basic.specs.declared.symbols.Symbol.TheVariants as s
 use Rattle.tlsf_basic.specs.declared.symbols.Lexeme.{Lexeme}
 use Rattle.tlsf_basic.specs.declared.headings.Heading.{Heading}
 use Rattle.tlsf_basic.specs.declared.mains.Sections.{Sections}
-use Rattle.tlsf_basic.specs.Formulas.{with_unary, with_lone}
+use Rattle.tlsf_basic.specs.Values.{with_unary, with_lone}
 use Rattle.tlsf_basic.specs.Mains.{read_text}
 use Rattle.tlsf_basic.specs.Signals.{is_unknown, IsSymbolBelow, IsSignalBelow, IsKnown}
 use Rattle.tlsf_basic.specs.Composition.{conjunction, plain, strict, formula_of}

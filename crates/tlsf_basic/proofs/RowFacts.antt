@@ -8,8 +8,7 @@ use Rattle.tlsf_basic.specs.declared.symbols.Symbol.{Symbol}
 use Rattle.tlsf_basic.specs.declared.symbols.Symbol.TheVariants as s
 use Rattle.tlsf_basic.specs.declared.symbols.Lexeme.{Lexeme}
 use Rattle.tlsf_basic.specs.Reads.{Halt, Read, Past, ◌>>=◌, front, expected_by, expected}
-use Rattle.tlsf_basic.specs.Marks.{mark, is_title, is_description, is_semantics, is_target, is_tags, is_colon, is_text, is_comma, is_kind, is_info, is_main, is_open_brace, is_close_brace, is_declared, is_semicolon, is_inputs, is_outputs, is_section}
-use Rattle.tlsf_basic.specs.Headings.{is_strict, is_name}
+use Rattle.tlsf_basic.specs.Marks.{mark, is_title, is_description, is_semantics, is_target, is_tags, is_colon, is_text, is_comma, is_kind, is_info, is_main, is_open_brace, is_close_brace, is_declared, is_semicolon, is_inputs, is_outputs, is_section, is_strict, is_name}
 use Rattle.tlsf_basic.specs.Rows.{IsRow, BeginsRow}
 use Rattle.tlsf_basic.proofs.Good.{Texts, Stops, Others, By, Passed, valued, unvalued, Good, weaker, past-past, IsOne, StopsAt, token, at_token}
 use Rattle.tlsf_basic.proofs.Stopping.{ends_by, ends_operand, ends-append}

@@ -13,9 +13,8 @@ use Rattle.tlsf_basic.specs.declared.symbols.Section.{Section}
 use Rattle.tlsf_basic.specs.declared.symbols.Symbol.{Symbol}
 use Rattle.tlsf_basic.specs.declared.symbols.Symbol.TheVariants as s
 use Rattle.tlsf_basic.specs.declared.symbols.Lexeme.{Lexeme}
-use Rattle.tlsf_basic.specs.Marks.{is_title, is_description, is_semantics, is_target, is_tags, is_kind, is_colon, is_text, is_comma, is_info, is_main, is_open_brace, is_close_brace, is_declared, is_semicolon, is_inputs, is_outputs, is_section}
-use Rattle.tlsf_basic.specs.Headings.{is_strict, is_name, no_items}
-use Rattle.tlsf_basic.specs.Mains.{added, no_parts}
+use Rattle.tlsf_basic.specs.Marks.{is_title, is_description, is_semantics, is_target, is_tags, is_kind, is_colon, is_text, is_comma, is_info, is_main, is_open_brace, is_close_brace, is_declared, is_semicolon, is_inputs, is_outputs, is_section, is_strict, is_name}
+use Rattle.tlsf_basic.specs.Values.{no_items, added, no_parts}
 use Rattle.tlsf_basic.specs.Rows.{IsRow, BeginsRow}
 use Rattle.tlsf_basic.specs.Grammar.{IsFormula}
 use Rattle.tlsf_basic.specs.Begins.{BeginsMark, no_mark, the_mark, BeginsFormula}

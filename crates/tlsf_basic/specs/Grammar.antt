@@ -8,7 +8,7 @@ use Rattle.tlsf_basic.specs.declared.symbols.Symbol.{Symbol}
 use Rattle.tlsf_basic.specs.declared.symbols.Symbol.TheVariants as s
 use Rattle.tlsf_basic.specs.declared.symbols.Lexeme.{Lexeme}
 use Rattle.tlsf_basic.specs.Marks.{is_close}
-use Rattle.tlsf_basic.specs.Formulas.{with_unary, with_lone}
+use Rattle.tlsf_basic.specs.Values.{with_unary, with_lone}
 
 -- a constant, or a name by its number; a name that isn't declared has none, and the greatest stands for it
 abbrev pub atom_value : Symbol → Option Ltl

@@ -12,4 +12,5 @@ pub mod Specification
 pub mod TextBegins
 pub mod TextFaults
 pub mod TextGrammar
+pub mod Values
 pub mod Words

@@ -15,15 +15,7 @@ use Rattle.tlsf_basic.specs.Reads.{Halt, Read, Past, ◌>>=◌, front, unexpecte
 use Rattle.tlsf_basic.specs.Marks.{mark, closing, is_declared, is_semicolon, is_open_brace, is_close_brace, is_main, in_braces, part_word, end}
 use Rattle.tlsf_basic.specs.Formulas.{nested, read_formula}
 use Rattle.tlsf_basic.specs.Headings.{read_heading}
-
--- one more entry at the end of its section
-abbrev pub added : Section → Ltl → Sections → Sections
-added section.Initially f all = record all { initially = all.initially ++ f ∷ [] }
-added section.Preset f all = record all { preset = all.preset ++ f ∷ [] }
-added section.Require f all = record all { require = all.require ++ f ∷ [] }
-added section.Assert f all = record all { assert = all.assert ++ f ∷ [] }
-added section.Assume f all = record all { assume = all.assume ++ f ∷ [] }
-added section.Guarantee f all = record all { guarantee = all.guarantee ++ f ∷ [] }
+use Rattle.tlsf_basic.specs.Values.{added, no_sections, no_parts}
 
 -- a name with `;`
 abbrev pub name_turn : List Lexeme → Past
@@ -66,12 +58,6 @@ part_by n _ parts w = unexpected w
 -- signals of a side that hasn't stood before, or a section
 unfoldable pub read_part : ℕ → Parts → List Lexeme → Read Parts
 read_part n parts w = part_by n (front w) parts w
-
-abbrev pub no_sections : Sections
-no_sections = record { initially = []; preset = []; require = []; assert = []; assume = []; guarantee = [] }
-
-abbrev pub no_parts : Parts
-no_parts = record { inputs = false; outputs = false; sections = no_sections }
 
 unfoldable pub read_parts : ℕ → List Lexeme → Read Parts
 read_parts n w = turns in_braces (read_part n) (length w) no_parts w

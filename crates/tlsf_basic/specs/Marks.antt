@@ -110,3 +110,13 @@ is_outputs _ = false
 abbrev pub is_section : Symbol → Bool
 is_section (s.Section section) = true
 is_section _ = false
+
+abbrev pub is_strict : Symbol → Bool
+is_strict s.Strict = true
+is_strict _ = false
+
+abbrev pub is_name : Symbol → Bool
+is_name s.Name = true
+is_name (s.Kind kind) = true
+is_name s.Strict = true
+is_name _ = false

@@ -15,8 +15,7 @@ use Rattle.tlsf_basic.specs.declared.symbols.Symbol.TheVariants as s
 use Rattle.tlsf_basic.specs.declared.symbols.Lexeme.{Lexeme}
 use Rattle.tlsf_basic.specs.Reads.{front}
 use Rattle.tlsf_basic.specs.Marks.{is_info, is_main, is_open_brace, is_close_brace}
-use Rattle.tlsf_basic.specs.Headings.{no_items}
-use Rattle.tlsf_basic.specs.Mains.{no_parts}
+use Rattle.tlsf_basic.specs.Values.{no_items, no_parts}
 use Rattle.tlsf_basic.specs.Rows.{IsRow}
 use Rattle.tlsf_basic.specs.Grammar.{IsUnary}
 use Rattle.tlsf_basic.specs.TextGrammar.{IsItems, IsHeading, IsParts, IsText}

@@ -2,7 +2,8 @@
 
 ghost use Rattle.std.specs.Prelude.{◌≡◌, IfOk};
 ghost use Rattle.tlsf_basic.specs.Reads.{Gives, behind_by};
-ghost use Rattle.tlsf_basic.specs.Mains.{added, name_turn, no_parts, read_names, read_declared, read_entry, read_entries, read_inputs, read_outputs, read_section, read_part, read_parts, close_main, read_main, read_text};
+ghost use Rattle.tlsf_basic.specs.Mains.{name_turn, read_names, read_declared, read_entry, read_entries, read_inputs, read_outputs, read_section, read_part, read_parts, close_main, read_main, read_text};
+ghost use Rattle.tlsf_basic.specs.Values.{added, no_parts};
 
 use crate::faults::{Part, TextFault};
 use crate::formulas::read_formula;

@@ -1,7 +1,8 @@
 use Rattle.std.proofs.Common.{◌≡◌, ◌-◌, length}
 use Rattle.tlsf_basic.specs.Reads.{turns}
 use Rattle.tlsf_basic.specs.Marks.{in_braces}
-use Rattle.tlsf_basic.specs.Mains.{read_part, no_parts}
+use Rattle.tlsf_basic.specs.Mains.{read_part}
+use Rattle.tlsf_basic.specs.Values.{no_parts}
 use Rattle.tlsf_basic.proofs.mains.read_parts.Given as goal
 
 abbrev pub invariant-loop : goal.invariant-loop
