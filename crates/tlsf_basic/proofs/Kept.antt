@@ -20,15 +20,16 @@ use Rattle.tlsf_basic.specs.declared.headings.Heading.{Heading}
 use Rattle.tlsf_basic.specs.declared.mains.Sections.{Sections}
 use Rattle.tlsf_basic.specs.declared.mains.Parts.{Parts}
 use Rattle.tlsf_basic.specs.Reads.{Halt, Read, Past, ◌>>=◌, front, unexpected, turns, passes}
-use Rattle.tlsf_basic.specs.Marks.{mark, closing, part_word, end, is_and, is_or, is_close, is_colon, is_text, is_comma, is_open_brace, is_close_brace, is_semicolon, is_declared, is_info, is_main, is_end, in_braces}
-use Rattle.tlsf_basic.specs.Formulas.{with_unary, with_lone, Deeper, atom_by, read_atom, read_prefixed, read_parens, unary_by, read_unary, one_more, read_conjuncts, all_by, read_all_from, read_all, read_disjuncts, any_by, read_any_from, read_implied, arrow_by, read_arrow_from, read_arrow, read_second, formula_by, read_formula, nested}
-use Rattle.tlsf_basic.specs.Headings.{read_string, kind_by, read_kind, is_strict, strict_by, semantics_by, read_semantics, is_name, read_tags, read_title, read_description, read_tag_item, read_semantics_item, read_target_item, item_by, read_item, no_items, read_items, heading_by, close_heading, read_heading}
+use Rattle.tlsf_basic.specs.Marks.{mark, closing, part_word, end, is_and, is_or, is_close, is_colon, is_text, is_comma, is_open_brace, is_close_brace, is_semicolon, is_declared, is_info, is_main, in_braces, is_strict, is_name}
+use Rattle.tlsf_basic.specs.Formulas.{Deeper, atom_by, read_atom, read_prefixed, read_parens, unary_by, read_unary, one_more, read_conjuncts, all_by, read_all_from, read_all, read_disjuncts, any_by, read_any_from, read_implied, arrow_by, read_arrow_from, read_arrow, read_second, formula_by, read_formula, nested}
+use Rattle.tlsf_basic.specs.Values.{with_unary, with_lone, no_items, added, no_sections, no_parts}
+use Rattle.tlsf_basic.specs.Headings.{read_string, kind_by, read_kind, strict_by, semantics_by, read_semantics, read_tags, read_title, read_description, read_tag_item, read_semantics_item, read_target_item, item_by, read_item, read_items, heading_by, close_heading, read_heading}
 use Rattle.tlsf_basic.specs.declared.faults.TextFault.{TextFault}
 use Rattle.tlsf_basic.specs.Words.{SpanWithin}
 use Rattle.tlsf_basic.specs.Specification.{place_of, IsPlaced}
 use Rattle.tlsf_basic.specs.declared.faults.TextError.{TextError}
 use Rattle.tlsf_basic.specs.declared.faults.TextError.TheVariants.{Fault, Memory}
-use Rattle.tlsf_basic.specs.Mains.{added, name_turn, read_names, read_declared, read_entry, read_entries, read_inputs, read_outputs, read_section, part_by, read_part, no_sections, no_parts, read_parts, close_main, read_main, read_text}
+use Rattle.tlsf_basic.specs.Mains.{name_turn, read_names, read_declared, read_entry, read_entries, read_inputs, read_outputs, read_section, part_by, read_part, read_parts, close_main, read_main, read_text}
 
 -- a fact of tokens, one of places and one of formulas, where reading gives the others from the first
 pub record Carries (P : Lexeme → Type 0) (T : ℕ → Type 0) (Q : Ltl → Type 0) : Type 0 where
@@ -99,7 +100,8 @@ module _ (P : Lexeme → Type 0) (T : ℕ → Type 0) (Q : Ltl → Type 0) (carr
 
   at_end : (w : List Lexeme) → All P w → KeepsPast (end w)
   unfolding end
-  at_end w all = split-past (is_end (front w)) (Ok w) (unexpected w) all all
+  at_end [] all = all
+  at_end (t ∷ w) all = all
 
   at_turns : {S : Type 0} (R : S → Type 0) (goes : Symbol → Bool) (turn : S → List Lexeme → Read S) → ((state : S) (w : List Lexeme) → R state → All P w → Keeps R (turn state w)) → (n : ℕ) (state : S) (w : List Lexeme) → R state → All P w → Keeps R (turns goes turn n state w)
   unfolding turns
@@ -376,15 +378,15 @@ module _ (P : Lexeme → Type 0) (T : ℕ → Type 0) (Q : Ltl → Type 0) (carr
       (past-past (mark is_open_brace w) read_names (at_mark is_open_brace w all) at_names)
       (λ v av. at_mark is_close_brace v av)
 
-  at_entry : (kind : Section) (all : Sections) (w : List Lexeme) → Entries Q all → All P w → Keeps (Entries Q) (read_entry kind all w)
+  at_entry : (kind : Section) (all : Sections) (w : List Lexeme) → Entries Q all → All P w → Keeps (Entries Q) (read_entry 256 kind all w)
   unfolding read_entry
   at_entry kind all w e aw =
       bind _ _ (read_formula (nested 256) w) _ (at_formula (nested 256) (at_nested 256) w aw)
       (λ x qx ax. bind-past _ (closing is_semicolon x.1) _ (at_closing is_semicolon x.1 ax) (λ v av. (added-keeps kind x.0 all qx e, av)))
 
-  at_entries : (kind : Section) (all : Sections) (w : List Lexeme) → Entries Q all → All P w → Keeps (Entries Q) (read_entries kind all w)
+  at_entries : (kind : Section) (all : Sections) (w : List Lexeme) → Entries Q all → All P w → Keeps (Entries Q) (read_entries 256 kind all w)
   unfolding read_entries
-  at_entries kind all w e aw = at_turns (Entries Q) in_braces (read_entry kind) (at_entry kind) (length w) all w e aw
+  at_entries kind all w e aw = at_turns (Entries Q) in_braces (read_entry 256 kind) (at_entry kind) (length w) all w e aw
 
   abbrev PartsKeep : Parts → Type 0
   PartsKeep parts = Entries Q parts.sections
@@ -399,29 +401,29 @@ module _ (P : Lexeme → Type 0) (T : ℕ → Type 0) (Q : Ltl → Type 0) (carr
   at_outputs parts w e all =
       split _ parts.outputs (unexpected w) _ all (bind-past _ (read_declared (drop 1 w)) _ (at_declared (drop 1 w) (behind w all)) (λ v av. (e, av)))
 
-  at_section : (kind : Section) (parts : Parts) (w : List Lexeme) → PartsKeep parts → All P w → Keeps PartsKeep (read_section kind parts w)
+  at_section : (kind : Section) (parts : Parts) (w : List Lexeme) → PartsKeep parts → All P w → Keeps PartsKeep (read_section 256 kind parts w)
   unfolding read_section
   at_section kind parts w e all =
       bind-past _ (mark is_open_brace (drop 1 w)) _ (at_mark is_open_brace (drop 1 w) (behind w all))
-      (λ v av. bind (Entries Q) _ (read_entries kind parts.sections v) _ (at_entries kind parts.sections v e av)
+      (λ v av. bind (Entries Q) _ (read_entries 256 kind parts.sections v) _ (at_entries kind parts.sections v e av)
       (λ x ex ax. bind-past _ (mark is_close_brace x.1) _ (at_mark is_close_brace x.1 ax) (λ u au. (ex, au))))
 
-  part-go : (symbol : Symbol) (parts : Parts) (w : List Lexeme) → PartsKeep parts → All P w → Keeps PartsKeep (part_by symbol parts w)
+  part-go : (symbol : Symbol) (parts : Parts) (w : List Lexeme) → PartsKeep parts → All P w → Keeps PartsKeep (part_by 256 symbol parts w)
   part-go s.Inputs parts w e all = at_inputs parts w e all
   part-go s.Outputs parts w e all = at_outputs parts w e all
   part-go (s.Section kind) parts w e all = at_section kind parts w e all
   part-go symbol parts w e all = all
 
-  at_one_part : (parts : Parts) (w : List Lexeme) → PartsKeep parts → All P w → Keeps PartsKeep (read_part parts w)
+  at_one_part : (parts : Parts) (w : List Lexeme) → PartsKeep parts → All P w → Keeps PartsKeep (read_part 256 parts w)
   unfolding read_part
   at_one_part parts w e all = part-go (front w) parts w e all
 
   no_entries : Entries Q no_sections
   no_entries = record { initially = All-nil Q; preset = All-nil Q; require = All-nil Q; assert = All-nil Q; assume = All-nil Q; guarantee = All-nil Q }
 
-  at_parts : (w : List Lexeme) → All P w → Keeps PartsKeep (read_parts w)
+  at_parts : (w : List Lexeme) → All P w → Keeps PartsKeep (read_parts 256 w)
   unfolding read_parts
-  at_parts w all = at_turns PartsKeep in_braces read_part at_one_part (length w) no_parts w no_entries all
+  at_parts w all = at_turns PartsKeep in_braces (read_part 256) at_one_part (length w) no_parts w no_entries all
 
   at_close_main : (parts : Parts) (w : List Lexeme) → PartsKeep parts → All P w → Keeps (Entries Q) (close_main parts w)
   unfolding close_main
@@ -429,11 +431,11 @@ module _ (P : Lexeme → Type 0) (T : ℕ → Type 0) (Q : Ltl → Type 0) (carr
       split _ (in_braces (front w)) (unexpected w) _ all
       (split _ (not parts.inputs) _ _ all (split _ (not parts.outputs) _ (Ok (parts.sections, drop 1 w)) all (e, behind w all)))
 
-  at_main : (w : List Lexeme) → All P w → Keeps (Entries Q) (read_main w)
+  at_main : (w : List Lexeme) → All P w → Keeps (Entries Q) (read_main 256 w)
   unfolding read_main
   at_main w all =
-      bind _ _ (part_word is_main part.Main w >>= mark is_open_brace >>= read_parts) _
-      (bind-past _ (part_word is_main part.Main w >>= mark is_open_brace) read_parts
+      bind _ _ (part_word is_main part.Main w >>= mark is_open_brace >>= read_parts 256) _
+      (bind-past _ (part_word is_main part.Main w >>= mark is_open_brace) (read_parts 256)
       (past-past (part_word is_main part.Main w) (mark is_open_brace) (at_part is_main part.Main w all) (λ v av. at_mark is_open_brace v av))
       at_parts)
       (λ x ex ax. at_close_main x.0 x.1 ex ax)
@@ -451,11 +453,11 @@ module _ (P : Lexeme → Type 0) (T : ℕ → Type 0) (Q : Ltl → Type 0) (carr
   text_main heading (Ok q) h k = text_end heading q.0 (end q.1) h k.0 (at_end q.1 k.1)
   text_main heading (Err e) h k = k
 
-  text_heading : (r : Read Heading) → Keeps HeadingKeeps r → KeepsText (r >>= λ r. read_main r.1 >>= λ q. end q.1 >>= λ _. Ok (r.0, q.0))
-  text_heading (Ok r) k = text_main r.0 (read_main r.1) k.0 (at_main r.1 k.1)
+  text_heading : (r : Read Heading) → Keeps HeadingKeeps r → KeepsText (r >>= λ r. read_main 256 r.1 >>= λ q. end q.1 >>= λ _. Ok (r.0, q.0))
+  text_heading (Ok r) k = text_main r.0 (read_main 256 r.1) k.0 (at_main r.1 k.1)
   text_heading (Err e) k = k
 
-  pub at_text : (w : List Lexeme) → All P w → KeepsText (read_text w)
+  pub at_text : (w : List Lexeme) → All P w → KeepsText (read_text 256 w)
   unfolding read_text
   at_text w all = text_heading (read_heading w) (at_heading w all)
 
@@ -486,13 +488,13 @@ begins : (len : ℕ) (w : List Lexeme) → All (SpanWithin len) w → All (Begin
 begins len w all = All-weaker (SpanWithin len) (BeginsWithin len) (λ t p. let a : t.from < t.to = p.0 in let b : t.to ≤ len = p.1 in omega arith) w all
 
 -- a fault of the grammar stands at a byte of the text or at its end
-pub fault_within : (len : ℕ) (w : List Lexeme) (what : TextFault) (rest : List Lexeme) → All (SpanWithin len) w → read_text w ≡ Err (what, rest) → place_of len rest ≤ len
+pub fault_within : (len : ℕ) (w : List Lexeme) (what : TextFault) (rest : List Lexeme) → All (SpanWithin len) w → read_text 256 w ≡ Err (what, rest) → place_of len rest ≤ len
 fault_within len w what rest all is =
     let k = at_text (BeginsWithin len) (λ place. place ≤ len) (λ _. Unit {0}) (places len) w (begins len w all) in
     place_within len rest (subst (KeepsText (BeginsWithin len) (λ place. place ≤ len) (λ _. Unit {0}) (places len)) is k)
 
 -- so does the target
-pub target_within : (len : ℕ) (w : List Lexeme) (r : Heading × Sections) → All (SpanWithin len) w → read_text w ≡ Ok r → r.0.target.place ≤ len
+pub target_within : (len : ℕ) (w : List Lexeme) (r : Heading × Sections) → All (SpanWithin len) w → read_text 256 w ≡ Ok r → r.0.target.place ≤ len
 target_within len w r all is =
     let k = at_text (BeginsWithin len) (λ place. place ≤ len) (λ _. Unit {0}) (places len) w (begins len w all) in
     (subst (KeepsText (BeginsWithin len) (λ place. place ≤ len) (λ _. Unit {0}) (places len)) is k).0

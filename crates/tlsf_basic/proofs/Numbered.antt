@@ -15,7 +15,7 @@ use Rattle.tlsf_basic.specs.declared.symbols.Symbol.TheVariants as s
 use Rattle.tlsf_basic.specs.declared.symbols.Lexeme.{Lexeme}
 use Rattle.tlsf_basic.specs.declared.headings.Heading.{Heading}
 use Rattle.tlsf_basic.specs.declared.mains.Sections.{Sections}
-use Rattle.tlsf_basic.specs.Formulas.{with_unary, with_lone}
+use Rattle.tlsf_basic.specs.Values.{with_unary, with_lone}
 use Rattle.tlsf_basic.specs.Mains.{read_text}
 use Rattle.tlsf_basic.specs.Signals.{is_unknown, IsSymbolBelow, IsSignalBelow, IsKnown}
 use Rattle.tlsf_basic.specs.Composition.{conjunction, plain, strict, formula_of}
@@ -115,7 +115,7 @@ module _ (n : ℕ) where
       (conjunction_below _ e.assert) (conjunction_below _ e.assume) (conjunction_below _ e.guarantee)
 
   -- the formula of a text whose names are declared and numbered below n
-  pub read_below : (w : List Lexeme) (r : Heading × Sections) (is_strict : Bool) → All (IsSignalBelow n) w → All IsKnown w → read_text w ≡ Ok r → Below (formula_of is_strict r.1)
+  pub read_below : (w : List Lexeme) (r : Heading × Sections) (is_strict : Bool) → All (IsSignalBelow n) w → All IsKnown w → read_text 256 w ≡ Ok r → Below (formula_of is_strict r.1)
   read_below w r is_strict below known is =
       let k = at_text IsSound (λ _. Unit {0}) Below sound w (λ j d l. (below j d l, known j d l)) in
       formula_below is_strict r.1 (subst (KeepsText IsSound (λ _. Unit {0}) Below sound) is k).1

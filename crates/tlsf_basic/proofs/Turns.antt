@@ -24,7 +24,7 @@ module _ {S : Type 0} (goes : Symbol → Bool) (turn : S → List Lexeme → Rea
   turns_out zero state w none = refl
   turns_out (suc n) state w none = absurd (omega (arith, none))
 
-  one_turn : (n : ℕ) (state : S) (w : List Lexeme) → goes (front w) ≡ true → turns goes turn (suc n) state w ≡ (turn state w >>= λ r. turns goes turn n r.0 r.1)
+  pub one_turn : (n : ℕ) (state : S) (w : List Lexeme) → goes (front w) ≡ true → turns goes turn (suc n) state w ≡ (turn state w >>= λ r. turns goes turn n r.0 r.1)
   unfolding turns
   one_turn n state w go = rw go refl
 
@@ -54,17 +54,17 @@ module _ {S : Type 0} (goes : Symbol → Bool) (turn : S → List Lexeme → Rea
     turns_ran_out past = sym is ∙ turns_out (stop - counter) state w (omega arith)
 
 module _ (goes : Symbol → Bool) (turn : List Lexeme → Past) where
-  passes_end : (n : ℕ) (w : List Lexeme) → goes (front w) ≡ false → passes goes turn n w ≡ Ok w
+  pub passes_end : (n : ℕ) (w : List Lexeme) → goes (front w) ≡ false → passes goes turn n w ≡ Ok w
   unfolding passes
   passes_end zero w stop = refl
   passes_end (suc n) w stop = rw stop refl
 
-  passes_out : (n : ℕ) (w : List Lexeme) → n ≡ 0 → passes goes turn n w ≡ Ok w
+  pub passes_out : (n : ℕ) (w : List Lexeme) → n ≡ 0 → passes goes turn n w ≡ Ok w
   unfolding passes
   passes_out zero w none = refl
   passes_out (suc n) w none = absurd (omega (arith, none))
 
-  one_pass : (n : ℕ) (w : List Lexeme) → goes (front w) ≡ true → passes goes turn (suc n) w ≡ (turn w >>= passes goes turn n)
+  pub one_pass : (n : ℕ) (w : List Lexeme) → goes (front w) ≡ true → passes goes turn (suc n) w ≡ (turn w >>= passes goes turn n)
   unfolding passes
   one_pass n w go = rw go refl
 

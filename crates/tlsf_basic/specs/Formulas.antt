@@ -12,18 +12,7 @@ use Rattle.tlsf_basic.specs.declared.symbols.Symbol.TheVariants as s
 use Rattle.tlsf_basic.specs.declared.symbols.Lexeme.{Lexeme}
 use Rattle.tlsf_basic.specs.Reads.{Read, ◌>>=◌, front, unexpected, turns}
 use Rattle.tlsf_basic.specs.Marks.{is_and, is_or, is_close, closing}
-
-abbrev pub with_unary : Unary → Ltl → Ltl
-with_unary u.Not f = ltl.Not f
-with_unary u.Next f = ltl.Next f
-with_unary u.Finally f = ltl.Finally f
-with_unary u.Globally f = ltl.Globally f
-
-abbrev pub with_lone : Lone → Ltl → Ltl → Ltl
-with_lone o.Equiv f g = ltl.Equiv f g
-with_lone o.Until f g = ltl.Until f g
-with_lone o.Release f g = ltl.Release f g
-with_lone o.Weak f g = ltl.Weak f g
+use Rattle.tlsf_basic.specs.Values.{with_unary, with_lone}
 
 -- what is read one level deeper, each at the token that nests it
 pub record Deeper : Type 0 where

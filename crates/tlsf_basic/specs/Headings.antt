@@ -11,7 +11,8 @@ use Rattle.tlsf_basic.specs.declared.symbols.Symbol.{Symbol}
 use Rattle.tlsf_basic.specs.declared.symbols.Symbol.TheVariants as s
 use Rattle.tlsf_basic.specs.declared.symbols.Lexeme.{Lexeme}
 use Rattle.tlsf_basic.specs.Reads.{Read, Past, ◌>>=◌, front, unexpected, turns, passes}
-use Rattle.tlsf_basic.specs.Marks.{mark, is_colon, is_text, is_comma, is_open_brace, is_info, in_braces, part_word}
+use Rattle.tlsf_basic.specs.Marks.{is_strict, is_name, mark, is_colon, is_text, is_comma, is_open_brace, is_info, in_braces, part_word}
+use Rattle.tlsf_basic.specs.Values.{no_items}
 
 -- `:` and a string
 unfoldable pub read_string : List Lexeme → Past
@@ -26,10 +27,6 @@ unfoldable pub read_kind : List Lexeme → Read PlacedTarget
 read_kind [] = unexpected []
 read_kind (t ∷ ts) = kind_by t.symbol t ts
 
-abbrev pub is_strict : Symbol → Bool
-is_strict s.Strict = true
-is_strict _ = false
-
 abbrev pub strict_by : Symbol → Target → List Lexeme → Read Semantics
 strict_by s.Comma kind w = mark is_strict (drop 1 w) >>= λ v. Ok (record { kind = kind; strict = true }, v)
 strict_by _ kind w = Ok (record { kind = kind; strict = false }, w)
@@ -42,12 +39,6 @@ semantics_by _ w = read_kind w >>= λ r. strict_by (front r.1) r.0.target r.1
 -- a kind, perhaps with `Strict` beside it
 unfoldable pub read_semantics : List Lexeme → Read Semantics
 read_semantics w = semantics_by (front w) w
-
-abbrev pub is_name : Symbol → Bool
-is_name s.Name = true
-is_name (s.Kind kind) = true
-is_name s.Strict = true
-is_name _ = false
 
 -- names with `,` between them
 unfoldable pub read_tags : List Lexeme → Past
@@ -88,9 +79,6 @@ item_by _ items w = unexpected w
 -- an item that hasn't stood before
 unfoldable pub read_item : Items → List Lexeme → Read Items
 read_item items w = item_by (front w) items w
-
-abbrev pub no_items : Items
-no_items = record { title = false; description = false; tags = false; semantics = None; target = None }
 
 unfoldable pub read_items : List Lexeme → Read Items
 read_items w = turns in_braces read_item (length w) no_items w

@@ -1,9 +1,16 @@
+pub mod Begins
 pub mod Composition
 pub mod Formulas
+pub mod Grammar
 pub mod Headings
 pub mod Mains
 pub mod Marks
 pub mod Reads
+pub mod Rows
 pub mod Signals
 pub mod Specification
+pub mod TextBegins
+pub mod TextFaults
+pub mod TextGrammar
+pub mod Values
 pub mod Words

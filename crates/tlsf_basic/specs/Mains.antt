@@ -1,5 +1,5 @@
 -- Reading the second part, and the whole text.
-use Rattle.std.specs.Prelude.{true, false, not, List, [], ◌∷◌, ◌++◌, Result, Ok, Err, drop, length, if◌then◌else◌}
+use Rattle.std.specs.Prelude.{ℕ, true, false, not, List, [], ◌∷◌, ◌++◌, Result, Ok, Err, drop, length, if◌then◌else◌}
 use Rattle.ltl_form.specs.declared.formulas.Ltl.{Ltl}
 use Rattle.tlsf_basic.specs.declared.faults.Part.TheVariants as part
 use Rattle.tlsf_basic.specs.declared.faults.TextFault.TheVariants.{MissingPart}
@@ -15,15 +15,7 @@ use Rattle.tlsf_basic.specs.Reads.{Halt, Read, Past, ◌>>=◌, front, unexpecte
 use Rattle.tlsf_basic.specs.Marks.{mark, closing, is_declared, is_semicolon, is_open_brace, is_close_brace, is_main, in_braces, part_word, end}
 use Rattle.tlsf_basic.specs.Formulas.{nested, read_formula}
 use Rattle.tlsf_basic.specs.Headings.{read_heading}
-
--- one more entry at the end of its section
-abbrev pub added : Section → Ltl → Sections → Sections
-added section.Initially f all = record all { initially = all.initially ++ f ∷ [] }
-added section.Preset f all = record all { preset = all.preset ++ f ∷ [] }
-added section.Require f all = record all { require = all.require ++ f ∷ [] }
-added section.Assert f all = record all { assert = all.assert ++ f ∷ [] }
-added section.Assume f all = record all { assume = all.assume ++ f ∷ [] }
-added section.Guarantee f all = record all { guarantee = all.guarantee ++ f ∷ [] }
+use Rattle.tlsf_basic.specs.Values.{added, no_sections, no_parts}
 
 -- a name with `;`
 abbrev pub name_turn : List Lexeme → Past
@@ -36,13 +28,13 @@ read_names w = passes in_braces name_turn (length w) w
 unfoldable pub read_declared : List Lexeme → Past
 read_declared w = mark is_open_brace w >>= read_names >>= mark is_close_brace
 
--- a formula with `;`, where 256 levels of nesting are allowed
-unfoldable pub read_entry : Section → Sections → List Lexeme → Read Sections
-read_entry section all w =
-    read_formula (nested 256) w >>= λ r. closing is_semicolon r.1 >>= λ v. Ok (added section r.0 all, v)
+-- a formula with `;`, where so many levels of nesting are allowed
+unfoldable pub read_entry : ℕ → Section → Sections → List Lexeme → Read Sections
+read_entry n section all w =
+    read_formula (nested n) w >>= λ r. closing is_semicolon r.1 >>= λ v. Ok (added section r.0 all, v)
 
-unfoldable pub read_entries : Section → Sections → List Lexeme → Read Sections
-read_entries section all w = turns in_braces (read_entry section) (length w) all w
+unfoldable pub read_entries : ℕ → Section → Sections → List Lexeme → Read Sections
+read_entries n section all w = turns in_braces (read_entry n section) (length w) all w
 
 unfoldable pub read_inputs : Parts → List Lexeme → Read Parts
 read_inputs parts w =
@@ -52,29 +44,23 @@ unfoldable pub read_outputs : Parts → List Lexeme → Read Parts
 read_outputs parts w =
     (if parts.outputs then unexpected w else read_declared (drop 1 w) >>= λ v. Ok (record parts { outputs = true }, v))
 
-unfoldable pub read_section : Section → Parts → List Lexeme → Read Parts
-read_section section parts w =
-    mark is_open_brace (drop 1 w) >>= λ v. read_entries section parts.sections v
+unfoldable pub read_section : ℕ → Section → Parts → List Lexeme → Read Parts
+read_section n section parts w =
+    mark is_open_brace (drop 1 w) >>= λ v. read_entries n section parts.sections v
     >>= λ r. mark is_close_brace r.1 >>= λ u. Ok (record parts { sections = r.0 }, u)
 
-abbrev pub part_by : Symbol → Parts → List Lexeme → Read Parts
-part_by s.Inputs parts w = read_inputs parts w
-part_by s.Outputs parts w = read_outputs parts w
-part_by (s.Section section) parts w = read_section section parts w
-part_by _ parts w = unexpected w
+abbrev pub part_by : ℕ → Symbol → Parts → List Lexeme → Read Parts
+part_by n s.Inputs parts w = read_inputs parts w
+part_by n s.Outputs parts w = read_outputs parts w
+part_by n (s.Section section) parts w = read_section n section parts w
+part_by n _ parts w = unexpected w
 
 -- signals of a side that hasn't stood before, or a section
-unfoldable pub read_part : Parts → List Lexeme → Read Parts
-read_part parts w = part_by (front w) parts w
+unfoldable pub read_part : ℕ → Parts → List Lexeme → Read Parts
+read_part n parts w = part_by n (front w) parts w
 
-abbrev pub no_sections : Sections
-no_sections = record { initially = []; preset = []; require = []; assert = []; assume = []; guarantee = [] }
-
-abbrev pub no_parts : Parts
-no_parts = record { inputs = false; outputs = false; sections = no_sections }
-
-unfoldable pub read_parts : List Lexeme → Read Parts
-read_parts w = turns in_braces read_part (length w) no_parts w
+unfoldable pub read_parts : ℕ → List Lexeme → Read Parts
+read_parts n w = turns in_braces (read_part n) (length w) no_parts w
 
 -- the closing brace, where the parts are whole
 unfoldable pub close_main : Parts → List Lexeme → Read Sections
@@ -84,9 +70,9 @@ close_main parts w =
     else (if not parts.outputs then Err (MissingPart part.Outputs, w)
     else Ok (parts.sections, drop 1 w))))
 
-unfoldable pub read_main : List Lexeme → Read Sections
-read_main w = part_word is_main part.Main w >>= mark is_open_brace >>= read_parts >>= λ r. close_main r.0 r.1
+unfoldable pub read_main : ℕ → List Lexeme → Read Sections
+read_main n w = part_word is_main part.Main w >>= mark is_open_brace >>= read_parts n >>= λ r. close_main r.0 r.1
 
 -- a whole text
-unfoldable pub read_text : List Lexeme → Result (Heading × Sections) Halt
-read_text w = read_heading w >>= λ r. read_main r.1 >>= λ q. end q.1 >>= λ _. Ok (r.0, q.0)
+unfoldable pub read_text : ℕ → List Lexeme → Result (Heading × Sections) Halt
+read_text n w = read_heading w >>= λ r. read_main n r.1 >>= λ q. end q.1 >>= λ _. Ok (r.0, q.0)

@@ -1,5 +1,5 @@
 -- Single tokens.
-use Rattle.std.specs.Prelude.{Bool, true, false, not, List, Ok, Err, drop, if◌then◌else◌}
+use Rattle.std.specs.Prelude.{Bool, true, false, not, List, [], ◌∷◌, Ok, Err, drop, if◌then◌else◌}
 use Rattle.tlsf_basic.specs.declared.faults.Part.{Part}
 use Rattle.tlsf_basic.specs.declared.symbols.Symbol.{Symbol}
 use Rattle.tlsf_basic.specs.declared.symbols.Symbol.TheVariants as s
@@ -54,10 +54,6 @@ abbrev pub is_main : Symbol → Bool
 is_main s.Main = true
 is_main _ = false
 
-abbrev pub is_end : Symbol → Bool
-is_end s.End = true
-is_end _ = false
-
 -- a token of this kind, and no other
 unfoldable pub mark : (Symbol → Bool) → List Lexeme → Past
 mark is w = (if is (front w) then Ok (drop 1 w) else unexpected w)
@@ -72,8 +68,55 @@ part_word is part w = (if is (front w) then Ok (drop 1 w) else Err (missing part
 
 -- nothing more
 unfoldable pub end : List Lexeme → Past
-end w = (if is_end (front w) then Ok w else unexpected w)
+end [] = Ok []
+end (t ∷ w) = unexpected (t ∷ w)
 
 -- a list in braces goes on up to the closing one
 abbrev pub in_braces : Symbol → Bool
 in_braces symbol = not (is_close_brace symbol)
+
+abbrev pub is_title : Symbol → Bool
+is_title s.Title = true
+is_title _ = false
+
+abbrev pub is_description : Symbol → Bool
+is_description s.Description = true
+is_description _ = false
+
+abbrev pub is_semantics : Symbol → Bool
+is_semantics s.Semantics = true
+is_semantics _ = false
+
+abbrev pub is_target : Symbol → Bool
+is_target s.Target = true
+is_target _ = false
+
+abbrev pub is_tags : Symbol → Bool
+is_tags s.Tags = true
+is_tags _ = false
+
+abbrev pub is_kind : Symbol → Bool
+is_kind (s.Kind kind) = true
+is_kind _ = false
+
+abbrev pub is_inputs : Symbol → Bool
+is_inputs s.Inputs = true
+is_inputs _ = false
+
+abbrev pub is_outputs : Symbol → Bool
+is_outputs s.Outputs = true
+is_outputs _ = false
+
+abbrev pub is_section : Symbol → Bool
+is_section (s.Section section) = true
+is_section _ = false
+
+abbrev pub is_strict : Symbol → Bool
+is_strict s.Strict = true
+is_strict _ = false
+
+abbrev pub is_name : Symbol → Bool
+is_name s.Name = true
+is_name (s.Kind kind) = true
+is_name s.Strict = true
+is_name _ = false

@@ -4,7 +4,8 @@ ghost use Rattle.std.specs.Prelude.{◌≡◌, ◌∷◌, [], IfOk, drop, length
 ghost use Rattle.ltl_form.specs.declared.formulas.Ltl.TheVariants.{Implies};
 ghost use Rattle.tlsf_basic.specs.Reads.{Gives, behind_by, turns};
 ghost use Rattle.tlsf_basic.specs.Marks.{is_and, is_or};
-ghost use Rattle.tlsf_basic.specs.Formulas.{with_unary, with_lone, read_atom, read_prefixed, read_parens, read_unary, one_more, read_conjuncts, read_all_from, read_all, read_disjuncts, read_any_from, read_implied, read_arrow_from, read_arrow, read_second, read_formula, nested};
+ghost use Rattle.tlsf_basic.specs.Formulas.{read_atom, read_prefixed, read_parens, read_unary, one_more, read_conjuncts, read_all_from, read_all, read_disjuncts, read_any_from, read_implied, read_arrow_from, read_arrow, read_second, read_formula, nested};
+ghost use Rattle.tlsf_basic.specs.Values.{with_unary, with_lone};
 
 use crate::faults::TextFault;
 use crate::stops::{Read, Stop, behind, close, expected, front, is_and, is_or};

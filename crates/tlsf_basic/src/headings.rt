@@ -2,8 +2,8 @@
 
 ghost use Rattle.std.specs.Prelude.{◌≡◌, drop, length};
 ghost use Rattle.tlsf_basic.specs.Reads.{Gives, behind_by, front, passes};
-ghost use Rattle.tlsf_basic.specs.Marks.{mark, is_comma};
-ghost use Rattle.tlsf_basic.specs.Headings.{read_string, read_kind, is_strict, strict_by, read_semantics, is_name, read_tags, read_title, read_description, read_tag_item, read_semantics_item, read_target_item, read_item, read_items, close_heading, read_heading};
+ghost use Rattle.tlsf_basic.specs.Marks.{mark, is_comma, is_strict, is_name};
+ghost use Rattle.tlsf_basic.specs.Headings.{read_string, read_kind, strict_by, read_semantics, read_tags, read_title, read_description, read_tag_item, read_semantics_item, read_target_item, read_item, read_items, close_heading, read_heading};
 
 use crate::faults::{Part, TextFault};
 use crate::stops::{

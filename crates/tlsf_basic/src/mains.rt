@@ -2,7 +2,8 @@
 
 ghost use Rattle.std.specs.Prelude.{◌≡◌, IfOk};
 ghost use Rattle.tlsf_basic.specs.Reads.{Gives, behind_by};
-ghost use Rattle.tlsf_basic.specs.Mains.{added, name_turn, no_parts, read_names, read_declared, read_entry, read_entries, read_inputs, read_outputs, read_section, read_part, read_parts, close_main, read_main, read_text};
+ghost use Rattle.tlsf_basic.specs.Mains.{name_turn, read_names, read_declared, read_entry, read_entries, read_inputs, read_outputs, read_section, read_part, read_parts, close_main, read_main, read_text};
+ghost use Rattle.tlsf_basic.specs.Values.{added, no_parts};
 
 use crate::faults::{Part, TextFault};
 use crate::formulas::read_formula;
@@ -88,7 +89,7 @@ fn read_entry<'a>(
     sections: Sections,
     tokens: &'a [Lexeme],
 ) -> Read<'a, Sections>
-    ensures { Gives behind_by result (read_entry section sections tokens.now) }
+    ensures { Gives behind_by result (read_entry 256 section sections tokens.now) }
 {
     let (entry, rest) = read_formula(alloc, 256, tokens)?;
     let rest = entry_end(rest)?;
@@ -103,7 +104,7 @@ fn read_entries<'a>(
     sections: Sections,
     tokens: &'a [Lexeme],
 ) -> Read<'a, Sections>
-    ensures { Gives behind_by result (read_entries section sections tokens.now) }
+    ensures { Gives behind_by result (read_entries 256 section sections tokens.now) }
 {
     let mut sections = sections;
     let mut rest = tokens;
@@ -173,7 +174,7 @@ fn read_section<'a>(
     parts: Parts,
     tokens: &'a [Lexeme],
 ) -> Read<'a, Parts>
-    ensures { Gives behind_by result (read_section section parts tokens.now) }
+    ensures { Gives behind_by result (read_section 256 section parts tokens.now) }
 {
     let Parts {
         inputs,
@@ -196,7 +197,7 @@ fn read_section<'a>(
 /// Signals of a side that hasn't stood before, or a section.
 #[tactic(auto, unfolding(crate::specs::Mains::read_part))]
 fn read_part<'a>(alloc: Global, parts: Parts, tokens: &'a [Lexeme]) -> Read<'a, Parts>
-    ensures { Gives behind_by result (read_part parts tokens.now) }
+    ensures { Gives behind_by result (read_part 256 parts tokens.now) }
 {
     match front(tokens) {
         Symbol::Inputs => read_inputs(parts, tokens),
@@ -227,7 +228,7 @@ fn no_parts(alloc: Global) -> Parts
 /// All parts up to the closing brace.
 #[tactic(auto, unfolding(crate::specs::Mains::read_parts))]
 fn read_parts<'a>(alloc: Global, tokens: &'a [Lexeme]) -> Read<'a, Parts>
-    ensures { Gives behind_by result (read_parts tokens.now) }
+    ensures { Gives behind_by result (read_parts 256 tokens.now) }
 {
     let mut parts = no_parts(alloc);
     let mut rest = tokens;
@@ -262,7 +263,7 @@ fn close_main<'a>(parts: Parts, tokens: &'a [Lexeme]) -> Read<'a, Sections>
 /// The whole second part.
 #[tactic(auto, unfolding(crate::specs::Mains::read_main))]
 fn read_main<'a>(alloc: Global, tokens: &'a [Lexeme]) -> Read<'a, Sections>
-    ensures { Gives behind_by result (read_main tokens.now) }
+    ensures { Gives behind_by result (read_main 256 tokens.now) }
 {
     let rest = open_brace(main_word(tokens)?)?;
     let (parts, rest) = read_parts(alloc, rest)?;
@@ -272,7 +273,7 @@ fn read_main<'a>(alloc: Global, tokens: &'a [Lexeme]) -> Read<'a, Sections>
 /// The whole text.
 #[tactic(auto, unfolding(crate::specs::Mains::read_text))]
 pub fn read_text<'a>(alloc: Global, tokens: &'a [Lexeme]) -> Result<(Heading, Sections), Stop<'a>>
-    ensures { Gives (λ r. r) result (read_text tokens.now) }
+    ensures { Gives (λ r. r) result (read_text 256 tokens.now) }
 {
     let (heading, rest) = read_heading(tokens)?;
     let (sections, rest) = read_main(alloc, rest)?;

@@ -1,11 +1,12 @@
 //! From a text to its specification.
 
+ghost use Rattle.std.specs.Prelude.{◌++◌, map, string_bytes, encode_utf8_all};
 ghost use Rattle.std.specs.Prelude.{◌≡◌, ℕ, ◌≤◌, ◌+◌, All, IfOk, IfErr, OnOk, vec_len, length, true};
 ghost use Rattle.ltl_form.specs.Formula.{signals_below};
 ghost use Rattle.tlsf_basic.specs.Words.{SpanWithin};
-ghost use Rattle.tlsf_basic.specs.Signals.{IsKnown};
+ghost use Rattle.tlsf_basic.specs.Signals.{IsKnown, name_of};
 ghost use Rattle.tlsf_basic.specs.Mains.{read_text};
-ghost use Rattle.tlsf_basic.specs.Specification.{signal_count, place_of, GivesPlaced, IsPlaced};
+ghost use Rattle.tlsf_basic.specs.Specification.{signal_count, place_of, GivesPlaced, IsPlaced, Agrees, AreNamed, IsSpec, IsRefused, IsNameRefused, IsTargetRefused, IsNumberRefused};
 ghost use Rattle.tlsf_basic.specs.declared.faults.TextError.TheVariants.{Memory};
 
 use crate::compositions::formula_of;
@@ -40,6 +41,8 @@ pub fn read_spec(alloc: Global, text: &[u8], as_written: bool) -> Result<Spec, T
     ensures few { IfOk result (λ spec. signal_count spec.names ≤ 40) }
     ensures numbered { IfOk result (λ spec. signals_below (signal_count spec.names) spec.formula ≡ true) }
     ensures place { IfErr result (IsPlaced (length text.now)) }
+    ensures spec { IfOk result (IsSpec text.now as_written) }
+    ensures fault { IfErr result (IsRefused text.now as_written) }
 {
     let tokens = lex(alloc, text)?;
     let lexemes = lexemes_of(alloc, text, &tokens)?;
@@ -61,7 +64,7 @@ fn whole_text(
     lexemes: &[Lexeme],
 ) -> Result<(Heading, Sections), TextError>
     requires { All (SpanWithin len) lexemes.now }
-    ensures value { GivesPlaced len result (read_text lexemes.now) }
+    ensures value { GivesPlaced len result (read_text 256 lexemes.now) }
     ensures place { IfErr result (IsPlaced len) }
 {
     match read_text(alloc, lexemes) {
@@ -88,6 +91,8 @@ fn place_of(len: usize, rest: &[Lexeme]) -> usize
 fn check_names(alloc: Global, text: &[u8], lexemes: &[Lexeme]) -> Result<(), TextError>
     requires { All (SpanWithin (length text.now)) lexemes.now }
     ensures known { OnOk result (All IsKnown lexemes.now) }
+    ensures named { OnOk result (AreNamed text.now lexemes.now) }
+    ensures fault { IfErr result (IsNameRefused text.now lexemes.now) }
     ensures place { IfErr result (IsPlaced (length text.now)) }
 {
     if let Some(place) = first_duplicate(alloc, text, lexemes)? {
@@ -103,7 +108,9 @@ fn check_names(alloc: Global, text: &[u8], lexemes: &[Lexeme]) -> Result<(), Tex
 
 /// The target is the kind of the semantics, unless the text is read as it is written.
 fn check_target(heading: Heading, as_written: bool) -> Result<(), TextError>
-    ensures { IfErr result (IsPlaced heading.target.place) }
+    ensures place { IfErr result (IsPlaced heading.target.place) }
+    ensures agrees { OnOk result (Agrees as_written heading) }
+    ensures fault { IfErr result (IsTargetRefused as_written heading) }
 {
     let PlacedTarget { target, place } = heading.target;
     if target != heading.semantics.kind && !as_written {
@@ -116,6 +123,7 @@ fn check_target(heading: Heading, as_written: bool) -> Result<(), TextError>
 /// There are at most 40 signals.
 fn check_count(declared: &Declared) -> Result<(), TextError>
     ensures few { OnOk result (vec_len declared.now.inputs + vec_len declared.now.outputs ≤ 40) }
+    ensures fault { IfErr result (IsNumberRefused (declared.now.inputs.items ++ declared.now.outputs.items)) }
     ensures place { (len : ℕ) → All (SpanWithin len) declared.now.inputs.items → All (SpanWithin len) declared.now.outputs.items → IfErr result (IsPlaced len) }
 {
     let what = TextFault::TooManySignals;
@@ -139,6 +147,8 @@ fn names_of(
 ) -> Result<Names, TextError>
     requires inputs { All (SpanWithin (length text.now)) declared.now.inputs.items }
     requires outputs { All (SpanWithin (length text.now)) declared.now.outputs.items }
+    ensures inputs { IfOk result (λ names. map string_bytes names.inputs.items ≡ map encode_utf8_all (map (name_of text.now) declared.now.inputs.items)) }
+    ensures outputs { IfOk result (λ names. map string_bytes names.outputs.items ≡ map encode_utf8_all (map (name_of text.now) declared.now.outputs.items)) }
     ensures count { IfOk result (λ names. signal_count names ≡ vec_len declared.now.inputs + vec_len declared.now.outputs) }
     ensures target { IfOk result (λ names. names.target ≡ target) }
     ensures memory { IfErr result (λ e. e ≡ Memory) }

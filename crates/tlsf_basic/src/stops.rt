@@ -214,9 +214,9 @@ pub fn declared<'a>(tokens: &'a [Lexeme]) -> Past<'a>
 pub fn end<'a>(tokens: &'a [Lexeme]) -> Past<'a>
     ensures { Gives (λ r. r.now) result (end tokens.now) }
 {
-    match front(tokens) {
-        Symbol::End => Ok(tokens),
-        _ => Err(Stop::Fault(expected(tokens), tokens)),
+    match tokens {
+        [] => Ok(tokens),
+        [_, ..] => Err(Stop::Fault(expected(tokens), tokens)),
     }
 }
 

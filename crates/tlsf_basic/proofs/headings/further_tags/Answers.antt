@@ -1,7 +1,6 @@
 use Rattle.std.proofs.Common.{ap, sym, ◌∙◌, length, drop}
 use Rattle.std.proofs.lemmas.Result.{err_from_is_err_and}
-use Rattle.tlsf_basic.specs.Marks.{mark, is_comma}
-use Rattle.tlsf_basic.specs.Headings.{is_name}
+use Rattle.tlsf_basic.specs.Marks.{mark, is_comma, is_name}
 use Rattle.tlsf_basic.proofs.Turns.{passed, pass_failed, passes_ended, passes_ran_out, Fails-through, Gives-err}
 use Rattle.tlsf_basic.proofs.headings.further_tags.Goals as goal
 use Rattle.tlsf_basic.proofs.headings.further_tags.Goals.{else-loop-test, then-loop-test+then-not-is_comma}

@@ -1,7 +1,6 @@
 use Rattle.std.proofs.Common.{◌≡◌, ◌-◌, length, drop}
 use Rattle.tlsf_basic.specs.Reads.{passes}
-use Rattle.tlsf_basic.specs.Marks.{mark, is_comma}
-use Rattle.tlsf_basic.specs.Headings.{is_name}
+use Rattle.tlsf_basic.specs.Marks.{mark, is_comma, is_name}
 use Rattle.tlsf_basic.proofs.headings.further_tags.Given as goal
 
 abbrev pub invariant-loop : goal.invariant-loop

@@ -8,4 +8,4 @@ pub returns-in-Err-Fault-clause-place : goal.returns-in-Err-Fault-clause-place
 returns-in-Err-Fault-clause-place c =
     subst (λ place. place ≤ c.args.len) (sym c.place_of-place.ensures)
     (fault_within c.args.len c.args.lexemes.now c.in-Err-Fault.what c.in-Err-Fault.rest.now c.requires
-    (subst (λ e. Fails e (read_text c.args.lexemes.now)) c.in-Err-Fault.field-0-is c.in-Err-Fault.ensures))
+    (subst (λ e. Fails e (read_text 256 c.args.lexemes.now)) c.in-Err-Fault.field-0-is c.in-Err-Fault.ensures))
