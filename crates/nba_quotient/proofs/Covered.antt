@@ -7,7 +7,6 @@ use Rattle.std.specs.declared.alloc.Global.{Global}
 use Rattle.std.specs.List.{All, Contains}
 use Rattle.std.proofs.lemmas.Bool.Decides.{Decides-eqb}
 use Rattle.std.proofs.lemmas.Nat.{and_comm}
-use Rattle.std.proofs.lemmas.List.{get_or_at}
 use Rattle.std.proofs.lemmas.List.Elements.{All-contains, All-more, All-weaker, Contains-get_or}
 use Rattle.std.proofs.lemmas.List.Sorted.{Contains-permutation, IsPermutation-sym}
 use Rattle.word_core.specs.declared.automata.Edge.{Edge}
@@ -15,7 +14,7 @@ use Rattle.word_core.specs.declared.cubes.Cube.{Cube}
 use Rattle.word_core.specs.Automaton.{AutomatonData, edges_at}
 use Rattle.word_core.specs.Cube.{holds}
 use Rattle.word_core.proofs.BitLaws.{within_block}
-use Rattle.nba_quotient.specs.Ways.{Way, class_at, IsWayOf, Absorbs, IsAbsorbed, AreWays, AreWaysOf}
+use Rattle.nba_quotient.specs.Ways.{Way, IsWayOf, Absorbs, IsAbsorbed, AreWays, AreWaysOf}
 
 pub wider : (n w : Cube) → bit_and n.care w.care ≡ w.care → nat_eq (bit_and n.want w.care) w.want ≡ true → (x : ℕ) → holds n x ≡ true → holds w x ≡ true
 wider n w care want x h =
@@ -52,9 +51,11 @@ ways_are a of s ways sorted kept zip moved all only = record {
       where
         differ : false ≡ true → ⊥
         differ e = cc
+
         unmarked : (b : Bool) → v.2 ≡ b → e.marked ≡ false → (v.2 ≡ false → e.marked ≡ true) → v.2 ≡ true
         unmarked true e off on = e
         unmarked false e off on = absurd (differ (sym off ∙ on e))
+
     by : (w : Way) → Contains ways w → (e : Edge) × Contains (edges_at a s) e × IsWayOf of e w
     by w c =
         let l : c.0 < length (edges_at a s) = omega (arith, c.1, zip.count) in
@@ -70,8 +71,8 @@ pub kept_more : (ways kept now : List Way) (i : ℕ) (w : Way) → i < length wa
     → All (IsAbsorbed now) (take (i + 1) ways) × All (Contains ways) now
 kept_more ways kept now i w l is all only absorbed more cases = (
   All-more (IsAbsorbed now) ways i w l
-    (All-weaker (IsAbsorbed kept) (IsAbsorbed now) (λ v h. (h.0, more h.0 h.1, h.2)) (take i ways) all)
-    (subst (IsAbsorbed now) is absorbed),
+      (All-weaker (IsAbsorbed kept) (IsAbsorbed now) (λ v h. (h.0, more h.0 h.1, h.2)) (take i ways) all)
+      (subst (IsAbsorbed now) is absorbed),
   λ k d h. from (get_or now k d) (cases (get_or now k d) (Contains-get_or now k d h)),
 )
   where
@@ -91,11 +92,13 @@ ways_push of edges ways i e w l is zip way = record { count = omega (arith, leng
   where
     size : length ways ≡ i
     size = omega (arith, length-take i edges, zip.count)
+
     each : (k : ℕ) (d : Edge) (v : Way) → k < length (take (i + 1) edges) → IsWayOf of (get_or (take (i + 1) edges) k d) (get_or (ways ++ w ∷ []) k v)
     each k d v h = by (nat_lt k i) refl
       where
         whole : take (i + 1) edges ≡ take i edges ++ e ∷ []
         whole = take_more edges i e l ∙ ap (λ (x : Edge). take i edges ++ x ∷ []) is
+
         by : (b : Bool) → nat_lt k i ≡ b → IsWayOf of (get_or (take (i + 1) edges) k d) (get_or (ways ++ w ∷ []) k v)
         by true t =
             let m : k < i = ltb-true k i t in

@@ -1,5 +1,5 @@
 -- Numbers in sets: the place of an equal element, or the next one.
-use Rattle.std.proofs.Common.{◌≡◌, ℕ, suc, ◌+◌, ◌<◌, ◌⊎◌, Bool, true, false, not, cond, eqb, ◌&&◌, ◌||◌, Vec, Global, List, [], ◌∷◌, ◌++◌, length, get_or, map, inl, inr, refl, sym, ◌∙◌, ap, subst, arith}
+use Rattle.std.proofs.Common.{◌≡◌, ℕ, ◌+◌, ◌<◌, Bool, true, false, not, cond, eqb, ◌&&◌, ◌||◌, Vec, Global, List, [], ◌∷◌, ◌++◌, length, get_or, map, inl, inr, refl, sym, ◌∙◌, ap, subst, arith}
 use Rattle.std.specs.Bool.{Decides, beq}
 use Rattle.std.specs.List.{list_any, position_or_len}
 use Rattle.std.specs.Cmp.Lexicographic.{pointwise}
@@ -11,7 +11,7 @@ use Rattle.std.proofs.lemmas.Slice.Eq.{slice_eq-Decides}
 use Rattle.indexmap.specs.IndexSet.{insert_key}
 use Rattle.word_core.specs.declared.cubes.Cube.{Cube}
 use Rattle.nba_quotient.specs.Kinds.{kind_of}
-use Rattle.nba_quotient.specs.Ways.{Way, Kind, IsNumberOf}
+use Rattle.nba_quotient.specs.Ways.{Way, IsNumberOf}
 
 false≢true : false ≡ true → ⊥
 false≢true e = cc

@@ -1,6 +1,5 @@
 -- All states in one class.
-use Rattle.std.proofs.Common.{◌≡◌, ℕ, zero, suc, ◌+◌, ◌<◌, ◌≤◌, ◌^◌, max, Vec, Global, List, [], ◌∷◌, length, get_or, replicate, fold, take, refl, sym, ◌∙◌, ap, subst, arith}
-use Rattle.std.specs.List.{All}
+use Rattle.std.proofs.Common.{◌≡◌, ℕ, zero, suc, ◌+◌, ◌<◌, ◌≤◌, ◌^◌, max, List, [], ◌∷◌, length, get_or, replicate, fold, take, refl, sym, ◌∙◌, ap, arith}
 use Rattle.std.proofs.lemmas.List.{get_or-replicate, length-replicate}
 use Rattle.nba_quotient.specs.declared.classes.Classes.{Classes}
 use Rattle.nba_quotient.specs.Classes.{known, AreClasses}
@@ -37,12 +36,14 @@ one_class_is count c small some of leasts =
         let e : get_or c.of.items k d ≡ 0 = ap (λ (l : List ℕ). get_or l k d) of ∙ get_or-replicate count k 0 d m in
         let one : length c.leasts.items ≡ 1 = ap length leasts in
         omega arith
+
     least : (k d : ℕ) → k < length c.leasts.items → get_or c.leasts.items k d < count
     least k d l =
         let one : length c.leasts.items ≡ 1 = ap length leasts in
         let z : k ≡ 0 = omega arith in
         let e : get_or c.leasts.items k d ≡ 0 = ap (λ n. get_or c.leasts.items n d) z ∙ ap (λ (l : List ℕ). get_or l 0 d) leasts in
         omega arith
+
     low : (s : ℕ) → s < count → class_at c.of.items s ≤ known (take s c.of.items)
     low s l =
         let e : class_at c.of.items s ≡ 0 = ap (λ (l : List ℕ). get_or l s 0) of ∙ get_or-replicate count s 0 0 l in

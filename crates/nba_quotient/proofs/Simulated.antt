@@ -1,5 +1,5 @@
 -- The automaton of stable classes has the runs of the first one, and no others.
-use Rattle.std.proofs.Common.{◌≡◌, ℕ, zero, suc, ◌+◌, ◌<◌, ◌≤◌, Bool, true, false, if◌then◌else◌, nat_lt, List, [], ◌∷◌, length, map, get_or, Option, Some, None, refl, sym, ◌∙◌, ap, subst, arith}
+use Rattle.std.proofs.Common.{◌≡◌, ℕ, ◌+◌, ◌<◌, ◌≤◌, Bool, true, false, if◌then◌else◌, nat_lt, List, [], ◌∷◌, length, map, get_or, Option, Some, None, refl, sym, ◌∙◌, ap, subst, arith}
 use borrow.Author.Tests.{ltb-true, ltb-false}
 use Rattle.std.specs.Prelude.{option_map}
 use Rattle.std.specs.List.{All, Contains}
@@ -10,12 +10,11 @@ use Rattle.word_core.specs.declared.automata.Edge.{Edge}
 use Rattle.word_core.specs.Automaton.{AutomatonData, IsAutomaton, IsEdge, edges_at}
 use Rattle.word_core.specs.Cube.{holds}
 use Rattle.word_core.specs.Machine.{MachineData}
-use Rattle.word_core.specs.Play.{IsPlay}
 use Rattle.word_core.specs.Run.{IsRunFrom, IsRun, count, Keeps}
 use Rattle.nba_quotient.specs.declared.classes.Classes.{Classes}
 use Rattle.nba_quotient.specs.Classes.{AreClasses, AreStable}
 use Rattle.nba_quotient.specs.Simulation.{Outruns}
-use Rattle.nba_quotient.specs.Ways.{class_at, to_class, Covers, Within}
+use Rattle.nba_quotient.specs.Ways.{class_at, to_class}
 
 -- an edge that does what another one does, and leads on
 record Answers (b : AutomatonData) (R : ℕ → ℕ → Type 0) (t : ℕ) (e : Edge) : Type 0 where

@@ -1,16 +1,16 @@
 -- Classes split by what their states have in common.
-use Rattle.std.proofs.Common.{◌≡◌, ℕ, zero, suc, ◌+◌, ◌<◌, ◌≤◌, ◌⊎◌, Bool, true, false, not, nat_lt, nat_eq, max, List, [], ◌∷◌, ◌++◌, length, get_or, take, inl, inr, refl, sym, ◌∙◌, ap, subst, arith, length-append}
+use Rattle.std.proofs.Common.{◌≡◌, ℕ, ◌+◌, ◌<◌, ◌≤◌, ◌⊎◌, Bool, true, false, not, nat_lt, nat_eq, max, List, [], ◌∷◌, ◌++◌, length, get_or, take, inl, inr, refl, sym, ◌∙◌, ap, subst, arith, length-append}
 use borrow.Author.Tests.{ltb-true, ltb-false}
-use Rattle.std.specs.List.{All, Contains}
+use Rattle.std.specs.List.{All}
 use Rattle.std.proofs.lemmas.Bool.Decides.{Decides-eqb}
 use Rattle.std.proofs.lemmas.List.{get_or_append_left, get_or_push, get_or_default, take_more, take_all, take-append-le}
 use Rattle.std.proofs.lemmas.List.Sums.{fold_push}
 use Rattle.std.proofs.lemmas.List.Elements.{All-push, All-weaker, All-get_or}
 use Rattle.word_core.specs.declared.automata.Edge.{Edge}
-use Rattle.word_core.specs.Automaton.{AutomatonData, edges_at}
+use Rattle.word_core.specs.Automaton.{AutomatonData}
 use Rattle.word_core.specs.Cube.{holds}
 use Rattle.nba_quotient.specs.Classes.{known, AreOrdered}
-use Rattle.nba_quotient.specs.Ways.{Way, Kind, class_at, IsWayOf, Absorbs, IsAbsorbed, AreWays, Within, IsNumberOf}
+use Rattle.nba_quotient.specs.Ways.{Way, Kind, class_at, IsWayOf, AreWays, Within, IsNumberOf}
 
 false≢true : false ≡ true → ⊥
 false≢true e = cc
@@ -33,12 +33,15 @@ way_is of e = record { class = refl; marked = not_true e.marked; unmarked = not_
 pub same_ways : (a : AutomatonData) (of : List ℕ) (s t : ℕ) (ways : List Way) → AreWays a of s ways → AreWays a of t ways → Within a of s t
 same_ways a of s t ways left right e there =
     let w = left.all e (way of e) there (way_is of e) in
-    let f = right.only w.0 w.1 in
-    (f.0, f.1, record {
-      class = sym f.2.class ∙ w.2.class;
-      marked = λ h. by w.0.2 w.0.2 f.0 refl (λ k. not_true e.marked (w.2.marked k)) f.2.unmarked h;
-      cube = λ x h. subst (λ c. holds c x ≡ true) f.2.cube (w.2.cube x h);
-    })
+    let f = right.only w.0 w.1 in (
+      f.0,
+      f.1,
+      record {
+        class = sym f.2.class ∙ w.2.class;
+        marked = λ h. by w.0.2 w.0.2 f.0 refl (λ k. not_true e.marked (w.2.marked k)) f.2.unmarked h;
+        cube = λ x h. subst (λ c. holds c x ≡ true) f.2.cube (w.2.cube x h);
+      },
+    )
   where
     by : (b c : Bool) (f : Edge) → c ≡ b → (c ≡ true → e.marked ≡ false) → (c ≡ false → f.marked ≡ true) → e.marked ≡ true → f.marked ≡ true
     by true c f is off on h = absurd (false≢true (sym (off is) ∙ h))
@@ -224,6 +227,7 @@ module _ (a : AutomatonData) (old : List ℕ) (kinds : List Kind) (of : List ℕ
     where
       more : known old ≤ length kinds
       more = subst (λ l. known l ≤ length kinds) all_taken split.more
+
       by : (b : Bool) → nat_eq (length kinds) (known old) ≡ b → (of ≡ old) ⊎ (known old < length kinds)
       by true e =
           let is : length kinds ≡ known old = (Decides-eqb (length kinds) (known old)).0 e in

@@ -14,12 +14,7 @@ use word_core::{Automaton, Cube, Edge};
 pub type Way = (u32, u32, bool, Cube);
 
 /// The edges of a state up to the classes of their ends, ascending, without those that another one absorbs.
-pub fn ways_of(
-    alloc: Global,
-    a: &Automaton,
-    state: u32,
-    of: &[u32],
-) -> Result<Vec<Way>, AllocError>
+pub fn ways_of(alloc: Global, a: &Automaton, state: u32, of: &[u32]) -> Result<Vec<Way>, AllocError>
     requires state { state < length a.now.states }
     requires classes { length of.now ≡ length a.now.states }
     ensures { IfOk result (λ v. AreWays a.now of.now state v.items) }
@@ -30,12 +25,7 @@ pub fn ways_of(
 }
 
 /// A way for each edge of a state.
-fn all_ways(
-    alloc: Global,
-    a: &Automaton,
-    state: u32,
-    of: &[u32],
-) -> Result<Vec<Way>, AllocError>
+fn all_ways(alloc: Global, a: &Automaton, state: u32, of: &[u32]) -> Result<Vec<Way>, AllocError>
     requires state { state < length a.now.states }
     requires classes { length of.now ≡ length a.now.states }
     ensures { IfOk result (λ v. AreWaysOf of.now (edges_at a.now state) v.items) }

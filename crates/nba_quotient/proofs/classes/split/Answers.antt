@@ -1,4 +1,4 @@
-use Rattle.std.proofs.Common.{◌≡◌, ℕ, ◌<◌, ◌≤◌, ◌+◌, ◌⊎◌, length, map, inl, inr, refl, sym, ap, ◌∙◌, subst, arith}
+use Rattle.std.proofs.Common.{◌≡◌, ℕ, ◌<◌, ◌+◌, ◌⊎◌, length, map, inl, inr, sym, ap, ◌∙◌, subst, arith}
 use Rattle.std.specs.List.{All}
 use Rattle.std.proofs.lemmas.List.{get_or_default, length-map, length_push}
 use Rattle.nba_quotient.specs.Classes.{known}
@@ -21,9 +21,10 @@ loop-state-preserved c =
     let class : c.index.result.now ≡ class_at old (length of) =
     c.index.ensures ∙ get_or_default old c.loop-state.state c.index.result.now 0 (omega (arith, within, size)) ∙ ap (class_at old) (sym size) in
     let number : IsNumberOf kinds now (class_at old (length of), ways) c.in_ok-class.class = subst (λ k. IsNumberOf kinds now (k, ways) c.in_ok-class.class) class c.in_ok-class.ensures in
-    let more : length c.push.new.self.items ≡ length of + 1 = ap length c.in_ok-push.ensures.items ∙ length_push of c.in_ok-class.class in
-    (omega (arith, size, more),
-     subst (IsSplit c.args.a.now old now) (sym c.in_ok-push.ensures.items) (split_goes c.args.a.now old kinds of ways c.loop-state.invariant.1 within c.requires.ordered are now c.in_ok-class.class number))
+    let more : length c.push.new.self.items ≡ length of + 1 = ap length c.in_ok-push.ensures.items ∙ length_push of c.in_ok-class.class in (
+      omega (arith, size, more),
+      subst (IsSplit c.args.a.now old now) (sym c.in_ok-push.ensures.items) (split_goes c.args.a.now old kinds of ways c.loop-state.invariant.1 within c.requires.ordered are now c.in_ok-class.class number),
+    )
 
 pub returns-clause-classes : goal.returns-clause-classes
 returns-clause-classes c =

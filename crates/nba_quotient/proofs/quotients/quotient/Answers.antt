@@ -1,4 +1,4 @@
-use Rattle.std.proofs.Common.{◌≡◌, ap, ◌∙◌}
+use Rattle.std.proofs.Common.{ap, ◌∙◌}
 use Rattle.std.specs.Option.{option_map}
 use Rattle.word_core.specs.Automaton.{AutomatonData}
 use Rattle.nba_quotient.specs.Ways.{class_at}

@@ -1,4 +1,4 @@
-use Rattle.std.proofs.Common.{get_or, sym, subst, take, false, length, ◌<◌, arith}
+use Rattle.std.proofs.Common.{get_or, subst, false}
 use Rattle.std.specs.List.{All}
 use Rattle.std.proofs.lemmas.List.{get_or_default, take_all}
 use Rattle.nba_quotient.specs.Ways.{Way, IsAbsorbed}
