@@ -1,37 +1,61 @@
 -- What an answer is, from its status and its text.
-use Rattle.std.proofs.Common.{◌≡◌, ℕ, ℤ, Bool, List, ◌++◌, codes, subst, sym}
+use Rattle.std.proofs.Common.{◌≡◌, ℕ, ℤ, Bool, true, false, Option, List, ◌++◌, codes, subst, sym}
 use Rattle.word_core.specs.declared.names.Player.{Player}
-use Rattle.word_core.specs.declared.names.Names.{Names}
+use Rattle.word_core.specs.Automaton.{AutomatonData}
+use Rattle.word_core.specs.Lasso.{LassoData}
+use Rattle.word_core.specs.Machine.{MachineData}
+use Rattle.word_core.specs.Run.{Keeps}
+use Rattle.shelf_io.specs.Texts.{Texts}
 use Rattle.spec_gen.specs.Arbiter.{arbiter_text}
+use Rattle.ltl_form.specs.Meaning.{holds_at}
+use Rattle.tlsf_basic.specs.declared.specifications.Spec.{Spec}
+use Rattle.tlsf_basic.specs.Specification.{IsSpec}
+use Rattle.game_form.specs.Game.{GameData, lanes}
+use Rattle.game_form.specs.Held.{HasHeld}
+use Rattle.dual_game.specs.declared.games.Pair.{Pair}
+use Rattle.dual_game.specs.Games.{IsGameOf}
 use Rattle.bonsai_words.specs.Ordered.{Asked}
 use Rattle.bonsai_words.specs.Ordered.Asked.{synth, downset, check, eval, gen}
-use Rattle.dual_game.specs.declared.games.Pair.{Pair}
 use Rattle.bonsai_run.specs.declared.verdicts.Verdict.{Verdict}
+use Rattle.bonsai_run.specs.Texts.{IsUnder, IsSpecOf}
 use Rattle.bonsai_run.specs.Answers.{IsAnswer, IsVerdict, bounds_of, verdict_of, verdict_text, verdict_comment, downset_text}
 use Rattle.bonsai_run.specs.Answers.IsAnswer.{decided, held, valid, over, holds, fails, generated}
 
-answer_as : (order : Asked) (s s' : ℕ) (t t' : List ℕ) → s ≡ s' → t ≡ t' → IsAnswer order s' t' → IsAnswer order s t
-answer_as order s s' t t' h k a = subst (λ x. IsAnswer order x t) (sym h) (subst (IsAnswer order s') (sym k) a)
+module _ (texts : Option Texts) where
+  answer_as : (order : Asked) (s s' : ℕ) (t t' : List ℕ) → s ≡ s' → t ≡ t' → IsAnswer texts order s' t' → IsAnswer texts order s t
+  answer_as order s s' t t' h k a = subst (λ x. IsAnswer texts order x t) (sym h) (subst (IsAnswer texts order s') (sym k) a)
 
-pub is_decided : (name : List ℕ) (bounds : ℕ × ℕ × ℕ) (workers : ℕ) (as_written : Bool) (pair : Pair) (names : Names) (v : Verdict) (s : ℕ) (t : List ℕ) → IsVerdict pair names (bounds_of bounds) v → s ≡ verdict_of v → t ≡ verdict_text names v
-    → IsAnswer (synth name bounds workers as_written) s t
-is_decided name bounds workers as_written pair names v s t is h k = answer_as _ s _ t _ h k (decided name bounds workers as_written pair names v is)
+  pub is_decided : (name : List ℕ) (bounds : ℕ × ℕ × ℕ) (workers : ℕ) (as_written : Bool) (spec : Spec) (pair : Pair) (v : Verdict) (s : ℕ) (t : List ℕ)
+      → IsSpecOf texts name as_written spec → IsVerdict pair spec.names (bounds_of bounds) v → s ≡ verdict_of v → t ≡ verdict_text spec.names v
+      → IsAnswer texts (synth name bounds workers as_written) s t
+  is_decided name bounds workers as_written spec pair v s t of is h k = answer_as _ s _ t _ h k (decided name bounds workers as_written spec pair v of is)
 
-pub is_downset : (name : List ℕ) (player : Player) (bound : ℕ) (as_written : Bool) (lanes : ℕ) (vectors : List (List ℤ)) (s : ℕ) (t : List ℕ) → s ≡ 0 → t ≡ downset_text player bound lanes vectors
-    → IsAnswer (downset name player bound as_written) s t
-is_downset name player bound as_written lanes vectors s t h k = answer_as _ s _ t _ h k (held name player bound as_written lanes vectors)
+  pub is_downset : (name : List ℕ) (player : Player) (bound : ℕ) (as_written : Bool) (spec : Spec) (a : AutomatonData) (g : GameData) (vectors : List (List ℤ)) (s : ℕ) (t : List ℕ)
+      → IsSpecOf texts name as_written spec → IsGameOf a spec.names player bound g → HasHeld g vectors → s ≡ 0 → t ≡ downset_text player bound (lanes g) vectors
+      → IsAnswer texts (downset name player bound as_written) s t
+  is_downset name player bound as_written spec a g vectors s t of is all h k = answer_as _ s _ t _ h k (held name player bound as_written spec a g vectors of is all)
 
-pub is_valid : (name machine : List ℕ) (bound : ℕ) (as_written : Bool) (s : ℕ) (t : List ℕ) → s ≡ 0 → t ≡ codes "VALID" ++ codes "\n" → IsAnswer (check name machine bound as_written) s t
-is_valid name machine bound as_written s t h k = answer_as _ s _ t _ h k (valid name machine bound as_written)
+  pub is_valid : (name machine : List ℕ) (bound : ℕ) (as_written : Bool) (spec : Spec) (text : List ℕ) (m : MachineData) (a : AutomatonData) (s : ℕ) (t : List ℕ)
+      → IsSpecOf texts name as_written spec → IsUnder texts machine text → Keeps a m bound → s ≡ 0 → t ≡ codes "VALID" ++ codes "\n"
+      → IsAnswer texts (check name machine bound as_written) s t
+  is_valid name machine bound as_written spec text m a s t of under keeps h k = answer_as _ s _ t _ h k (valid name machine bound as_written spec text m a of under keeps)
 
-pub is_over : (name machine : List ℕ) (bound : ℕ) (as_written : Bool) (s : ℕ) (t : List ℕ) → s ≡ 40 → t ≡ codes "OVER" ++ codes "\n" → IsAnswer (check name machine bound as_written) s t
-is_over name machine bound as_written s t h k = answer_as _ s _ t _ h k (over name machine bound as_written)
+  pub is_over : (name machine : List ℕ) (bound : ℕ) (as_written : Bool) (spec : Spec) (text : List ℕ) (m : MachineData) (a : AutomatonData) (s : ℕ) (t : List ℕ)
+      → IsSpecOf texts name as_written spec → IsUnder texts machine text → (Keeps a m bound → ⊥) → s ≡ 40 → t ≡ codes "OVER" ++ codes "\n"
+      → IsAnswer texts (check name machine bound as_written) s t
+  is_over name machine bound as_written spec text m a s t of under keeps h k = answer_as _ s _ t _ h k (over name machine bound as_written spec text m a of under keeps)
 
-pub is_holds : (name lasso : List ℕ) (as_written : Bool) (s : ℕ) (t : List ℕ) → s ≡ 0 → t ≡ codes "HOLDS" ++ codes "\n" → IsAnswer (eval name lasso as_written) s t
-is_holds name lasso as_written s t h k = answer_as _ s _ t _ h k (holds name lasso as_written)
+  pub is_holds : (name lasso : List ℕ) (as_written : Bool) (spec : Spec) (text : List ℕ) (w : LassoData) (s : ℕ) (t : List ℕ)
+      → IsSpecOf texts name as_written spec → IsUnder texts lasso text → holds_at w spec.formula 0 ≡ true → s ≡ 0 → t ≡ codes "HOLDS" ++ codes "\n"
+      → IsAnswer texts (eval name lasso as_written) s t
+  is_holds name lasso as_written spec text w s t of under is h k = answer_as _ s _ t _ h k (holds name lasso as_written spec text w of under is)
 
-pub is_fails : (name lasso : List ℕ) (as_written : Bool) (s : ℕ) (t : List ℕ) → s ≡ 40 → t ≡ codes "FAILS" ++ codes "\n" → IsAnswer (eval name lasso as_written) s t
-is_fails name lasso as_written s t h k = answer_as _ s _ t _ h k (fails name lasso as_written)
+  pub is_fails : (name lasso : List ℕ) (as_written : Bool) (spec : Spec) (text : List ℕ) (w : LassoData) (s : ℕ) (t : List ℕ)
+      → IsSpecOf texts name as_written spec → IsUnder texts lasso text → holds_at w spec.formula 0 ≡ false → s ≡ 40 → t ≡ codes "FAILS" ++ codes "\n"
+      → IsAnswer texts (eval name lasso as_written) s t
+  is_fails name lasso as_written spec text w s t of under is h k = answer_as _ s _ t _ h k (fails name lasso as_written spec text w of under is)
 
-pub is_generated : (clients workers : ℕ) (pair : Pair) (names : Names) (v : Verdict) (s : ℕ) (t : List ℕ) → IsVerdict pair names (bounds_of (0, 1, 8)) v → s ≡ 0 → t ≡ arbiter_text clients ++ verdict_comment v → IsAnswer (gen clients workers) s t
-is_generated clients workers pair names v s t is h k = answer_as _ s _ t _ h k (generated clients workers pair names v is)
+  pub is_generated : (clients workers : ℕ) (spec : Spec) (pair : Pair) (v : Verdict) (s : ℕ) (t : List ℕ)
+      → IsSpec (arbiter_text clients) false spec → IsVerdict pair spec.names (bounds_of (0, 1, 8)) v → s ≡ 0 → t ≡ arbiter_text clients ++ verdict_comment v
+      → IsAnswer texts (gen clients workers) s t
+  is_generated clients workers spec pair v s t of is h k = answer_as _ s _ t _ h k (generated clients workers spec pair v of is)

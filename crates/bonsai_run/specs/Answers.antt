@@ -1,19 +1,30 @@
 -- The texts of answers, by their statuses.
-use Rattle.std.specs.Prelude.{◌≡◌, ◌<◌, ℕ, ℤ, Bool, List, [], ◌∷◌, ◌++◌, codes, decimal, length}
+use Rattle.std.specs.Prelude.{◌≡◌, ◌<◌, ℕ, ℤ, Bool, true, false, Option, List, [], ◌∷◌, ◌++◌, codes, decimal, length}
 use Rattle.std.specs.Fmt.{signed_decimal}
 use Rattle.word_core.specs.declared.names.Player.{Player}
 use Rattle.word_core.specs.declared.names.Player.TheVariants.{System, Environment}
 use Rattle.word_core.specs.declared.names.Names.{Names}
+use Rattle.word_core.specs.Automaton.{AutomatonData}
+use Rattle.word_core.specs.Lasso.{LassoData}
 use Rattle.word_core.specs.Machine.{MachineData}
 use Rattle.word_core.specs.Run.{Keeps}
 use Rattle.dual_game.specs.declared.bounds.Bounds.{Bounds}
 use Rattle.dual_game.specs.declared.games.Pair.{Pair}
 use Rattle.dual_game.specs.Bounds.{IsTried}
 use Rattle.dual_game.specs.Winning.{IsMachineFor, NobodyWins, automaton_of}
+use Rattle.shelf_io.specs.Texts.{Texts}
+use Rattle.ltl_form.specs.Meaning.{holds_at}
+use Rattle.tlsf_basic.specs.declared.specifications.Spec.{Spec}
+use Rattle.tlsf_basic.specs.Specification.{IsSpec}
+use Rattle.game_form.specs.Game.{GameData, lanes}
+use Rattle.game_form.specs.Held.{HasHeld}
+use Rattle.dual_game.specs.Games.{IsGameOf}
 use Rattle.machine_text.specs.Machines.{machine_text, player_word}
 use Rattle.spec_gen.specs.Arbiter.{arbiter_text}
 use Rattle.bonsai_words.specs.Ordered.{Asked}
 use Rattle.bonsai_words.specs.Ordered.Asked.{synth, downset, check, eval, gen}
+use Rattle.bonsai_run.specs.Texts.{IsUnder, IsSpecOf}
+use Rattle.bonsai_run.specs.declared.answers.Answer.{Answer}
 use Rattle.bonsai_run.specs.declared.verdicts.Verdict.{Verdict}
 use Rattle.bonsai_run.specs.declared.verdicts.Verdict.TheVariants.{Won, Unknown}
 
@@ -88,15 +99,30 @@ abbrev pub verdict_comment : Verdict → List ℕ
 verdict_comment (Won bound machine) = won_comment bound machine
 verdict_comment (Unknown bound) = unknown_comment bound
 
--- what an order may be answered: a status and a text
-pub data IsAnswer : Asked → ℕ → List ℕ → Type 0 where
-  decided : (name : List ℕ) (bounds : ℕ × ℕ × ℕ) (workers : ℕ) (as_written : Bool) (pair : Pair) (names : Names) (v : Verdict) → IsVerdict pair names (bounds_of bounds) v
-      → IsAnswer (synth name bounds workers as_written) (verdict_of v) (verdict_text names v)
-  held : (name : List ℕ) (player : Player) (bound : ℕ) (as_written : Bool) (lanes : ℕ) (vectors : List (List ℤ))
-      → IsAnswer (downset name player bound as_written) 0 (downset_text player bound lanes vectors)
-  valid : (name machine : List ℕ) (bound : ℕ) (as_written : Bool) → IsAnswer (check name machine bound as_written) 0 (codes "VALID\n")
-  over : (name machine : List ℕ) (bound : ℕ) (as_written : Bool) → IsAnswer (check name machine bound as_written) 40 (codes "OVER\n")
-  holds : (name lasso : List ℕ) (as_written : Bool) → IsAnswer (eval name lasso as_written) 0 (codes "HOLDS\n")
-  fails : (name lasso : List ℕ) (as_written : Bool) → IsAnswer (eval name lasso as_written) 40 (codes "FAILS\n")
-  generated : (clients workers : ℕ) (pair : Pair) (names : Names) (v : Verdict) → IsVerdict pair names (bounds_of (0, 1, 8)) v
-      → IsAnswer (gen clients workers) 0 (arbiter_text clients ++ verdict_comment v)
+-- the answer of one word
+abbrev pub IsWord : ℕ → List ℕ → Answer → Type 0
+IsWord status word a = (a.status ≡ status) × (a.text.items ≡ word ++ codes "\n")
+
+-- what an order is answered, where the shelf has these texts: a status and a text
+pub data IsAnswer (texts : Option Texts) : Asked → ℕ → List ℕ → Type 0 where
+  decided : (name : List ℕ) (bounds : ℕ × ℕ × ℕ) (workers : ℕ) (as_written : Bool) (spec : Spec) (pair : Pair) (v : Verdict)
+      → IsSpecOf texts name as_written spec → IsVerdict pair spec.names (bounds_of bounds) v
+      → IsAnswer texts (synth name bounds workers as_written) (verdict_of v) (verdict_text spec.names v)
+  held : (name : List ℕ) (player : Player) (bound : ℕ) (as_written : Bool) (spec : Spec) (a : AutomatonData) (g : GameData) (vectors : List (List ℤ))
+      → IsSpecOf texts name as_written spec → IsGameOf a spec.names player bound g → HasHeld g vectors
+      → IsAnswer texts (downset name player bound as_written) 0 (downset_text player bound (lanes g) vectors)
+  valid : (name machine : List ℕ) (bound : ℕ) (as_written : Bool) (spec : Spec) (text : List ℕ) (m : MachineData) (a : AutomatonData)
+      → IsSpecOf texts name as_written spec → IsUnder texts machine text → Keeps a m bound
+      → IsAnswer texts (check name machine bound as_written) 0 (codes "VALID\n")
+  over : (name machine : List ℕ) (bound : ℕ) (as_written : Bool) (spec : Spec) (text : List ℕ) (m : MachineData) (a : AutomatonData)
+      → IsSpecOf texts name as_written spec → IsUnder texts machine text → (Keeps a m bound → ⊥)
+      → IsAnswer texts (check name machine bound as_written) 40 (codes "OVER\n")
+  holds : (name lasso : List ℕ) (as_written : Bool) (spec : Spec) (text : List ℕ) (w : LassoData)
+      → IsSpecOf texts name as_written spec → IsUnder texts lasso text → holds_at w spec.formula 0 ≡ true
+      → IsAnswer texts (eval name lasso as_written) 0 (codes "HOLDS\n")
+  fails : (name lasso : List ℕ) (as_written : Bool) (spec : Spec) (text : List ℕ) (w : LassoData)
+      → IsSpecOf texts name as_written spec → IsUnder texts lasso text → holds_at w spec.formula 0 ≡ false
+      → IsAnswer texts (eval name lasso as_written) 40 (codes "FAILS\n")
+  generated : (clients workers : ℕ) (spec : Spec) (pair : Pair) (v : Verdict)
+      → IsSpec (arbiter_text clients) false spec → IsVerdict pair spec.names (bounds_of (0, 1, 8)) v
+      → IsAnswer texts (gen clients workers) 0 (arbiter_text clients ++ verdict_comment v)

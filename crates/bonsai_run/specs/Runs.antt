@@ -1,5 +1,7 @@
 -- What is known of the names of an order, and of statuses.
 use Rattle.std.specs.Prelude.{ℕ, ◌≤◌, List, [], string_bytes}
+use Rattle.bonsai_words.specs.Ordered.{Asked}
+use Rattle.bonsai_words.specs.Ordered.Asked.{synth, downset, check, eval, gen}
 use Rattle.bonsai_words.specs.declared.orders.Order.{Order}
 use Rattle.bonsai_words.specs.declared.orders.Order.TheVariants.{Synth, Downset, Check, Eval, Gen}
 
@@ -16,6 +18,19 @@ abbrev pub second_name : Order → List ℕ
 second_name (Check name machine bound as_written) = string_bytes machine
 second_name (Eval name lasso as_written) = string_bytes lasso
 second_name _ = []
+
+-- the two names of what the words ask
+abbrev pub name_of : Asked → List ℕ
+name_of (synth name bounds workers as_written) = name
+name_of (downset name player bound as_written) = name
+name_of (check name machine bound as_written) = name
+name_of (eval name lasso as_written) = name
+name_of (gen clients workers) = []
+
+abbrev pub other_of : Asked → List ℕ
+other_of (check name machine bound as_written) = machine
+other_of (eval name lasso as_written) = lasso
+other_of _ = []
 
 -- the statuses of faults
 abbrev pub IsFaultStatus : ℕ → Type 0

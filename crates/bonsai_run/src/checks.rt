@@ -1,11 +1,13 @@
 //! The checks of machines and lassos.
 
-ghost use Rattle.std.specs.Prelude.{◌≡◌, ◌≤◌, ℕ, Bool, List, IfOk, IfErr, true, length, codes};
+ghost use Rattle.std.specs.Prelude.{◌≡◌, ◌≤◌, ℕ, Bool, List, Option, IfOk, IfErr, true, false, length, codes};
+ghost use Rattle.shelf_io.specs.Texts.{Texts};
 ghost use Rattle.ltl_form.specs.Formula.{signals_below};
 ghost use Rattle.tlsf_basic.specs.Specification.{signal_count};
 ghost use Rattle.bonsai_words.specs.Ordered.Asked.{check, eval};
-ghost use Rattle.bonsai_run.specs.Answers.{IsAnswer};
-ghost use Rattle.bonsai_run.specs.Faults.{IsInner};
+ghost use Rattle.bonsai_run.specs.Answers.{IsAnswer, IsWord};
+ghost use Rattle.bonsai_run.specs.Causes.{IsLater};
+ghost use Rattle.bonsai_run.specs.Texts.{IsUnder, IsSpecOf};
 
 use crate::answers::{Answer, word_answer};
 use crate::faults::Fault;
@@ -23,8 +25,8 @@ pub fn check_answer(alloc: Global, spec: &Spec, text: &[u8], bound: u32) -> Resu
     requires short { length text.now ≤ 1048576 }
     requires few { signal_count spec.now.names ≤ 40 }
     requires numbered { signals_below (signal_count spec.now.names) spec.now.formula ≡ true }
-    ensures answer { IfOk result (λ a. (name machine : List ℕ) (bound : ℕ) (as_written : Bool) → IsAnswer (check name machine bound as_written) a.status a.text.items) }
-    ensures fault { IfErr result IsInner }
+    ensures answer { (texts : Option Texts) (name machine : List ℕ) (as_written : Bool) → IsSpecOf texts name as_written spec.now → IsUnder texts machine text.now → IfOk result (λ a. IsAnswer texts (check name machine bound as_written) a.status a.text.items) }
+    ensures fault { IfErr result IsLater }
 {
     let machine = read_machine(alloc, text, &spec.names)?;
     let a = automaton(alloc, spec, machine.player())?;
@@ -37,8 +39,8 @@ pub fn eval_answer(alloc: Global, spec: &Spec, text: &[u8]) -> Result<Answer, Fa
     requires short { length text.now ≤ 1048576 }
     requires few { signal_count spec.now.names ≤ 40 }
     requires numbered { signals_below (signal_count spec.now.names) spec.now.formula ≡ true }
-    ensures answer { IfOk result (λ a. (name lasso : List ℕ) (as_written : Bool) → IsAnswer (eval name lasso as_written) a.status a.text.items) }
-    ensures fault { IfErr result IsInner }
+    ensures answer { (texts : Option Texts) (name lasso : List ℕ) (as_written : Bool) → IsSpecOf texts name as_written spec.now → IsUnder texts lasso text.now → IfOk result (λ a. IsAnswer texts (eval name lasso as_written) a.status a.text.items) }
+    ensures fault { IfErr result IsLater }
 {
     let signals = spec.names.inputs.len() as u32 + spec.names.outputs.len() as u32;
     let lasso = read_lasso(alloc, text, signals)?;
@@ -48,9 +50,9 @@ pub fn eval_answer(alloc: Global, spec: &Spec, text: &[u8]) -> Result<Answer, Fa
 }
 
 /// Whether a bound was kept, in words.
-#[tactic(auto, using(crate::proofs::Answering::is_valid, crate::proofs::Answering::is_over))]
 fn kept_answer(alloc: Global, kept: bool) -> Result<Answer, AllocError>
-    ensures { IfOk result (λ a. (name machine : List ℕ) (bound : ℕ) (as_written : Bool) → IsAnswer (check name machine bound as_written) a.status a.text.items) }
+    ensures valid { kept ≡ true → IfOk result (IsWord 0 (codes "VALID")) }
+    ensures over { kept ≡ false → IfOk result (IsWord 40 (codes "OVER")) }
 {
     if kept {
         word_answer(alloc, 0, b"VALID")
@@ -60,9 +62,9 @@ fn kept_answer(alloc: Global, kept: bool) -> Result<Answer, AllocError>
 }
 
 /// Whether a formula held, in words.
-#[tactic(auto, using(crate::proofs::Answering::is_holds, crate::proofs::Answering::is_fails))]
 fn held_answer(alloc: Global, held: bool) -> Result<Answer, AllocError>
-    ensures { IfOk result (λ a. (name lasso : List ℕ) (as_written : Bool) → IsAnswer (eval name lasso as_written) a.status a.text.items) }
+    ensures holds { held ≡ true → IfOk result (IsWord 0 (codes "HOLDS")) }
+    ensures fails { held ≡ false → IfOk result (IsWord 40 (codes "FAILS")) }
 {
     if held {
         word_answer(alloc, 0, b"HOLDS")

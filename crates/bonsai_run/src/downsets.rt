@@ -1,12 +1,14 @@
 //! The maximal vectors that a player holds, as an answer.
 
-ghost use Rattle.std.specs.Prelude.{◌≡◌, ◌++◌, ◌≤◌, ℕ, Bool, List, ℤ, codes, decimal, IfOk, IfErr, OnOk, true, map};
+ghost use Rattle.std.specs.Prelude.{◌≡◌, ◌++◌, ◌≤◌, ℕ, Bool, List, Option, ℤ, codes, decimal, IfOk, IfErr, OnOk, true, map};
 ghost use Rattle.std.specs.Fmt.{signed_decimal};
 ghost use Rattle.ltl_form.specs.Formula.{signals_below};
 ghost use Rattle.tlsf_basic.specs.Specification.{signal_count};
 ghost use Rattle.bonsai_words.specs.Ordered.Asked.{downset};
 ghost use Rattle.bonsai_run.specs.Answers.{IsAnswer, downset_text, vector_line, vector_lines, spaced};
-ghost use Rattle.bonsai_run.specs.Faults.{IsInner};
+ghost use Rattle.bonsai_run.specs.Causes.{IsLimit};
+ghost use Rattle.bonsai_run.specs.Texts.{IsSpecOf};
+ghost use Rattle.shelf_io.specs.Texts.{Texts};
 
 use crate::answers::{Answer, push_number};
 use crate::faults::Fault;
@@ -31,8 +33,8 @@ pub fn downset_answer(
     requires bound { bound ≤ 10000 }
     requires few { signal_count spec.now.names ≤ 40 }
     requires numbered { signals_below (signal_count spec.now.names) spec.now.formula ≡ true }
-    ensures answer { IfOk result (λ a. (name : List ℕ) (as_written : Bool) → IsAnswer (downset name player bound as_written) a.status a.text.items) }
-    ensures fault { IfErr result IsInner }
+    ensures answer { (texts : Option Texts) (name : List ℕ) (as_written : Bool) → IsSpecOf texts name as_written spec.now → IfOk result (λ a. IsAnswer texts (downset name player bound as_written) a.status a.text.items) }
+    ensures fault { IfErr result IsLimit }
 {
     let a = automaton(alloc, spec, player)?;
     let g = game(alloc, &a, &spec.names, player, bound)?;
@@ -43,7 +45,6 @@ pub fn downset_answer(
 }
 
 /// The answer of these maximal vectors.
-#[tactic(auto, using(crate::proofs::Answering::is_downset))]
 fn held_answer(
     alloc: Global,
     player: Player,
@@ -51,7 +52,8 @@ fn held_answer(
     lanes: usize,
     list: &ListDownset<Counters>,
 ) -> Result<Answer, AllocError>
-    ensures { IfOk result (λ a. (name : List ℕ) (as_written : Bool) → IsAnswer (downset name player bound as_written) a.status a.text.items) }
+    ensures status { IfOk result (λ a. a.status ≡ 0) }
+    ensures text { IfOk result (λ a. a.text.items ≡ downset_text player bound lanes list.now) }
 {
     let text = downset_text(alloc, player, bound, lanes, list)?;
     Ok(Answer { status: 0, text })

@@ -1,11 +1,9 @@
 //! The text of an arbiter with its answer.
 
-ghost use Rattle.std.specs.Prelude.{◌≡◌, ◌++◌, ◌≤◌, ℕ, IfOk, IfErr, OnOk};
+ghost use Rattle.std.specs.Prelude.{◌≡◌, ◌++◌, ◌≤◌, ℕ, Option, IfOk, IfErr, OnOk};
 ghost use Rattle.bonsai_words.specs.Ordered.Asked.{gen};
-ghost use Rattle.dual_game.specs.declared.games.Pair.{Pair};
-ghost use Rattle.word_core.specs.declared.names.Names.{Names};
-ghost use Rattle.spec_gen.specs.Arbiter.{arbiter_text};
-ghost use Rattle.bonsai_run.specs.Answers.{IsAnswer, IsVerdict, bounds_of, won_comment, unknown_comment, verdict_comment};
+ghost use Rattle.shelf_io.specs.Texts.{Texts};
+ghost use Rattle.bonsai_run.specs.Answers.{IsAnswer, won_comment, unknown_comment, verdict_comment};
 ghost use Rattle.bonsai_run.specs.Faults.{IsInner};
 
 use crate::answers::{Answer, push_number, verdict_word};
@@ -28,22 +26,20 @@ const DEFAULT_BOUNDS: Bounds = Bounds {
 pub fn generated_answer(alloc: Global, clients: u32) -> Result<Answer, Fault>
     requires some { 1 ≤ clients }
     requires few { clients ≤ 8 }
-    ensures answer { IfOk result (λ a. (workers : ℕ) → IsAnswer (gen clients workers) a.status a.text.items) }
+    ensures answer { IfOk result (λ a. (texts : Option Texts) (workers : ℕ) → IsAnswer texts (gen clients workers) a.status a.text.items) }
     ensures fault { IfErr result IsInner }
 {
     let text = arbiter(alloc, clients)?;
     let spec = read_spec(alloc, &text, false)?;
     let verdict = decide(alloc, &spec, DEFAULT_BOUNDS)?;
-    Ok(commented(text, clients, &verdict)?)
+    Ok(commented(text, &verdict)?)
 }
 
-/// The answer of an arbiter's text with a comment on the verdict.
-fn commented(text: Vec<u8>, clients: u32, verdict: &Verdict) -> Result<Answer, AllocError>
-    requires text { text.items ≡ arbiter_text clients }
-    requires verdict { (pair : Pair) × (names : Names) × IsVerdict pair names (bounds_of (0, 1, 8)) verdict.now }
-    ensures { IfOk result (λ a. (workers : ℕ) → IsAnswer (gen clients workers) a.status a.text.items) }
+/// A text with a comment on the verdict.
+fn commented(text: Vec<u8>, verdict: &Verdict) -> Result<Answer, AllocError>
+    ensures status { IfOk result (λ a. a.status ≡ 0) }
+    ensures text { IfOk result (λ a. a.text.items ≡ text.items ++ verdict_comment verdict.now) }
 {
-    let _ = clients;
     let mut text = text;
     push_comment(&mut text, verdict)?;
     Ok(Answer { status: 0, text })

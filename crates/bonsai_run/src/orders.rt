@@ -5,6 +5,7 @@ ghost use Rattle.bonsai_words.specs.Order.{IsInRange, AreBounds, IsWithin};
 ghost use Rattle.bonsai_words.specs.Ordered.{asked};
 ghost use Rattle.bonsai_words.specs.Ordered.Asked.{synth, downset, check, eval};
 ghost use Rattle.bonsai_run.specs.Answers.{IsAnswer};
+ghost use Rattle.bonsai_run.specs.Causes.{IsCause, IsCauseOf};
 ghost use Rattle.bonsai_run.specs.Faults.{Blames};
 ghost use Rattle.bonsai_run.specs.Runs.{first_name, second_name};
 
@@ -24,7 +25,8 @@ use word_core::Player;
 /// What an order asks for.
 pub fn answer_of<H: Shelf>(alloc: Global, order: &Order, shelf: &mut H) -> Result<Answer, Fault>
     requires { IsInRange order.now }
-    ensures answer { IfOk result (λ a. IsAnswer (asked order.now) a.status a.text.items) }
+    ensures answer { IfOk result (λ a. IsAnswer (H.texts shelf.old) (asked order.now) a.status a.text.items) }
+    ensures cause { IfErr result (IsCauseOf (H.texts shelf.old) (asked order.now)) }
     ensures blames { IfErr result (Blames (H.faults shelf.old) (H.faults shelf.new) (H.last_failed shelf.new) (first_name order.now) (second_name order.now)) }
 {
     match order {
@@ -65,7 +67,6 @@ pub fn answer_of<H: Shelf>(alloc: Global, order: &Order, shelf: &mut H) -> Resul
 }
 
 /// The verdict, with the bound and the machine.
-#[tactic(auto, using(crate::proofs::Answering::is_decided))]
 fn synth<H: Shelf>(
     alloc: Global,
     shelf: &mut H,
@@ -75,8 +76,9 @@ fn synth<H: Shelf>(
 ) -> Result<Answer, Fault>
     requires named { 0 < length name.now }
     requires bounds { AreBounds bounds }
-    ensures answer { IfOk result (λ a. (workers : ℕ) → IsAnswer (synth name.now bounds workers as_written) a.status a.text.items) }
+    ensures answer { IfOk result (λ a. (workers : ℕ) → IsAnswer (H.texts shelf.old) (synth name.now bounds workers as_written) a.status a.text.items) }
     ensures blames { IfErr result (Blames (H.faults shelf.old) (H.faults shelf.new) (H.last_failed shelf.new) name.now []) }
+    ensures cause { IfErr result (IsCause (H.texts shelf.old) name.now [] as_written) }
 {
     let spec = specification(alloc, shelf, name, "", as_written)?;
     let (first, step, last) = bounds;
@@ -95,8 +97,9 @@ fn downset<H: Shelf>(
 ) -> Result<Answer, Fault>
     requires named { 0 < length name.now }
     requires bound { bound ≤ 10000 }
-    ensures answer { IfOk result (λ a. IsAnswer (downset name.now player bound as_written) a.status a.text.items) }
+    ensures answer { IfOk result (λ a. IsAnswer (H.texts shelf.old) (downset name.now player bound as_written) a.status a.text.items) }
     ensures blames { IfErr result (Blames (H.faults shelf.old) (H.faults shelf.new) (H.last_failed shelf.new) name.now []) }
+    ensures cause { IfErr result (IsCause (H.texts shelf.old) name.now [] as_written) }
 {
     let spec = specification(alloc, shelf, name, "", as_written)?;
     downset_answer(alloc, &spec, player, bound)
@@ -113,8 +116,9 @@ fn check<H: Shelf>(
 ) -> Result<Answer, Fault>
     requires named { 0 < length name.now }
     requires other { 0 < length machine.now }
-    ensures answer { IfOk result (λ a. IsAnswer (check name.now machine.now bound as_written) a.status a.text.items) }
+    ensures answer { IfOk result (λ a. IsAnswer (H.texts shelf.old) (check name.now machine.now bound as_written) a.status a.text.items) }
     ensures blames { IfErr result (Blames (H.faults shelf.old) (H.faults shelf.new) (H.last_failed shelf.new) name.now machine.now) }
+    ensures cause { IfErr result (IsCause (H.texts shelf.old) name.now machine.now as_written) }
 {
     let spec = specification(alloc, shelf, name, machine, as_written)?;
     let text = text_of(alloc, shelf, name, machine, Source::Other)?;
@@ -131,8 +135,9 @@ fn eval<H: Shelf>(
 ) -> Result<Answer, Fault>
     requires named { 0 < length name.now }
     requires other { 0 < length lasso.now }
-    ensures answer { IfOk result (λ a. IsAnswer (eval name.now lasso.now as_written) a.status a.text.items) }
+    ensures answer { IfOk result (λ a. IsAnswer (H.texts shelf.old) (eval name.now lasso.now as_written) a.status a.text.items) }
     ensures blames { IfErr result (Blames (H.faults shelf.old) (H.faults shelf.new) (H.last_failed shelf.new) name.now lasso.now) }
+    ensures cause { IfErr result (IsCause (H.texts shelf.old) name.now lasso.now as_written) }
 {
     let spec = specification(alloc, shelf, name, lasso, as_written)?;
     let text = text_of(alloc, shelf, name, lasso, Source::Other)?;

@@ -1,13 +1,15 @@
 //! The top call.
 
-ghost use Rattle.std.specs.Prelude.{◌≡◌, ◌≤◌, ◌++◌, ◌⊎◌, ℕ, List, [], Some, None, map, codes, string_bytes};
+ghost use Rattle.std.specs.Prelude.{◌≡◌, ◌≤◌, ◌++◌, ◌⊎◌, ℕ, List, Option, [], Some, None, map, codes, string_bytes};
 ghost use Rattle.std.specs.List.{Contains};
 ghost use Rattle.bonsai_words.specs.Ordered.{Asked, ordered};
 ghost use Rattle.shelf_io.specs.Faults.{Rose};
+ghost use Rattle.shelf_io.specs.Texts.{Texts};
 ghost use Rattle.shelf_io.specs.Written.{appended, AppendsPrefix};
 ghost use Rattle.bonsai_run.specs.Answers.{IsAnswer};
+ghost use Rattle.bonsai_run.specs.Causes.{IsCauseOf};
 ghost use Rattle.bonsai_run.specs.Faults.{status_of, fault_text};
-ghost use Rattle.bonsai_run.specs.Runs.{first_name, second_name, IsFaultStatus};
+ghost use Rattle.bonsai_run.specs.Runs.{first_name, second_name, name_of, other_of, IsFaultStatus};
 ghost use Rattle.bonsai_run.specs.Writing.{Tells};
 ghost use Rattle.bonsai_run.specs.declared.faults.Fault.{Fault};
 ghost use Rattle.bonsai_run.specs.declared.faults.Fault.TheVariants.{Unwritten};
@@ -36,11 +38,12 @@ pub fn run_alone<H: Shelf, O: Sink, E: Sink>(
 ) -> u8
     ensures usage { result ≡ 2 → ordered (map string_bytes words.now) ≡ None }
     ensures no_order { ordered (map string_bytes words.now) ≡ None → (result ≡ 2) ⊎ (result ≡ 6) }
-    ensures answered { (IsFaultStatus result → ⊥) → (order : Asked) × (text : List ℕ) × (ordered (map string_bytes words.now) ≡ Some order) × IsAnswer order result text × (O.written out.new ≡ appended (O.written out.old) text) }
+    ensures answered { (IsFaultStatus result → ⊥) → (order : Asked) × (text : List ℕ) × (ordered (map string_bytes words.now) ≡ Some order) × IsAnswer (H.texts shelf.old) order result text × (O.written out.new ≡ appended (O.written out.old) text) }
     ensures quiet { (IsFaultStatus result → ⊥) → E.written err.new ≡ E.written err.old }
-    ensures unwritten { result ≡ 1 → Rose (O.faults out.old) (O.faults out.new) × ((order : Asked) × (status : ℕ) × (text : List ℕ) × (ordered (map string_bytes words.now) ≡ Some order) × IsAnswer order status text × AppendsPrefix (O.written out.old) (O.written out.new) text) }
+    ensures unwritten { result ≡ 1 → Rose (O.faults out.old) (O.faults out.new) × ((order : Asked) × (status : ℕ) × (text : List ℕ) × (ordered (map string_bytes words.now) ≡ Some order) × IsAnswer (H.texts shelf.old) order status text × AppendsPrefix (O.written out.old) (O.written out.new) text) }
     ensures unread { result ≡ 3 → Rose (H.faults shelf.old) (H.faults shelf.new) × ((name : List ℕ) × Contains (map string_bytes words.now) name × (H.last_failed shelf.new ≡ Some name) × Tells (E.written err.old) (E.written err.new) (E.faults err.old) (E.faults err.new) (codes "bonsai: cannot read " ++ name ++ codes "\n")) }
     ensures kept { 2 ≤ result → result ≤ 6 → O.written out.new ≡ O.written out.old }
+    ensures refused { 3 ≤ result → result ≤ 6 → (result ≡ 6) ⊎ ((order : Asked) × (fault : Fault) × (ordered (map string_bytes words.now) ≡ Some order) × (result ≡ status_of fault) × IsCauseOf (H.texts shelf.old) order fault × Tells (E.written err.old) (E.written err.new) (E.faults err.old) (E.faults err.new) (fault_text (name_of order) (other_of order) fault)) }
     ensures told { IsFaultStatus result → (name other : List ℕ) × (fault : Fault) × (result ≡ status_of fault) × Tells (E.written err.old) (E.written err.new) (E.faults err.old) (E.faults err.new) (fault_text name other fault) }
 {
     let order = match read_words(alloc, words) {
@@ -56,7 +59,7 @@ pub fn run_alone<H: Shelf, O: Sink, E: Sink>(
 
 /// Writes an answer, and says its status or that it can't be written.
 fn tell_answer<O: Sink, E: Sink>(answer: &Answer, out: &mut O, err: &mut E) -> u8
-    requires { (order : Asked) × IsAnswer order answer.now.status answer.now.text.items }
+    requires { (texts : Option Texts) × (order : Asked) × IsAnswer texts order answer.now.status answer.now.text.items }
     ensures answered { (IsFaultStatus result → ⊥) → (result ≡ answer.now.status) × (O.written out.new ≡ appended (O.written out.old) answer.now.text.items) }
     ensures quiet { (IsFaultStatus result → ⊥) → E.written err.new ≡ E.written err.old }
     ensures unwritten { IsFaultStatus result → (result ≡ 1) × Rose (O.faults out.old) (O.faults out.new) × AppendsPrefix (O.written out.old) (O.written out.new) answer.now.text.items }

@@ -3,7 +3,9 @@
 ghost use Rattle.std.specs.Prelude.{◌≡◌, ◌<◌, ◌≤◌, length, vec_len, IfOk, IfErr, true};
 ghost use Rattle.ltl_form.specs.Formula.{signals_below};
 ghost use Rattle.tlsf_basic.specs.Specification.{signal_count};
+ghost use Rattle.bonsai_run.specs.Causes.{IsCause, IsFetchFault};
 ghost use Rattle.bonsai_run.specs.Faults.{Blames, named};
+ghost use Rattle.bonsai_run.specs.Texts.{IsUnder, IsSpecOf};
 
 use crate::faults::{Fault, Source};
 use shelf_io::{Shelf, ShelfError};
@@ -23,6 +25,9 @@ pub fn text_of<H: Shelf>(
 ) -> Result<Vec<u8>, Fault>
     requires { 0 < length (named name.now other.now source) }
     ensures short { IfOk result (λ text. vec_len text ≤ 1048576) }
+    ensures under { IfOk result (λ text. IsUnder (H.texts shelf.old) (named name.now other.now source) text.items) }
+    ensures long { IfErr result (λ e. IsFetchFault (H.texts shelf.old) name.now other.now source e) }
+    ensures texts_stay { H.texts shelf.new ≡ H.texts shelf.old }
     ensures blames { IfErr result (Blames (H.faults shelf.old) (H.faults shelf.new) (H.last_failed shelf.new) name.now other.now) }
     ensures later { H.faults shelf.old ≤ H.faults shelf.new }
 {
@@ -53,6 +58,9 @@ pub fn specification<H: Shelf>(
     requires { 0 < length name.now }
     ensures few { IfOk result (λ spec. signal_count spec.names ≤ 40) }
     ensures numbered { IfOk result (λ spec. signals_below (signal_count spec.names) spec.formula ≡ true) }
+    ensures is { IfOk result (IsSpecOf (H.texts shelf.old) name.now as_written) }
+    ensures cause { IfErr result (IsCause (H.texts shelf.old) name.now other.now as_written) }
+    ensures texts_stay { H.texts shelf.new ≡ H.texts shelf.old }
     ensures blames { IfErr result (Blames (H.faults shelf.old) (H.faults shelf.new) (H.last_failed shelf.new) name.now other.now) }
     ensures later { H.faults shelf.old ≤ H.faults shelf.new }
 {

@@ -12,7 +12,7 @@ ghost use Rattle.tlsf_basic.specs.Specification.{signal_count};
 ghost use Rattle.word_core.specs.declared.names.Names.{Names};
 ghost use Rattle.word_core.specs.declared.names.Player.TheVariants.{System, Environment};
 ghost use Rattle.bonsai_run.specs.Answers.{IsVerdict};
-ghost use Rattle.bonsai_run.specs.Faults.{IsInner};
+ghost use Rattle.bonsai_run.specs.Causes.{IsLimit};
 ghost use Rattle.bonsai_run.specs.Winners.{IsWinner, IsFound, IsFoundOfTwo};
 
 use crate::faults::Fault;
@@ -42,7 +42,7 @@ pub fn decide(alloc: Global, spec: &Spec, bounds: Bounds) -> Result<Verdict, Fau
     requires few { signal_count spec.now.names ≤ 40 }
     requires numbered { signals_below (signal_count spec.now.names) spec.now.formula ≡ true }
     ensures verdict { IfOk result (λ v. (pair : Pair) × IsVerdict pair spec.now.names bounds v) }
-    ensures fault { IfErr result IsInner }
+    ensures fault { IfErr result IsLimit }
 {
     let pair = automata(alloc, spec)?;
     let names = &spec.names;

@@ -1,0 +1,20 @@
+-- The texts that an order names.
+use Rattle.std.specs.Prelude.{◌≡◌, ℕ, ◌<◌, ◌≤◌, Bool, List, Option, Some, length}
+use Rattle.shelf_io.specs.Texts.{Texts, text_of}
+use Rattle.tlsf_basic.specs.declared.specifications.Spec.{Spec}
+use Rattle.tlsf_basic.specs.Specification.{IsSpec}
+
+-- the text under a name, where the shelf tells its texts
+abbrev pub IsUnder : Option Texts → List ℕ → List ℕ → Type 0
+IsUnder texts name text = (told : Texts) → texts ≡ Some told → text_of told name ≡ Some text
+
+-- there is a text of at most 1,048,576 bytes under a name, and it is this specification
+pub record IsSpecOf (texts : Option Texts) (name : List ℕ) (as_written : Bool) (spec : Spec) : Type 0 where
+  pub text : List ℕ
+  pub under : IsUnder texts name text
+  pub short : length text ≤ 1048576
+  pub is : IsSpec text as_written spec
+
+-- there is a longer text under a name
+abbrev pub IsTooLong : Option Texts → List ℕ → Type 0
+IsTooLong texts name = (told : Texts) → texts ≡ Some told → (text : List ℕ) × (text_of told name ≡ Some text) × (1048576 < length text)
