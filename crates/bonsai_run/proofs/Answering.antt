@@ -17,7 +17,7 @@ use Rattle.dual_game.specs.Games.{IsGameOf}
 use Rattle.bonsai_words.specs.Ordered.{Asked}
 use Rattle.bonsai_words.specs.Ordered.Asked.{synth, downset, check, eval, gen}
 use Rattle.bonsai_run.specs.declared.verdicts.Verdict.{Verdict}
-use Rattle.bonsai_run.specs.Texts.{IsUnder, IsSpecOf}
+use Rattle.bonsai_run.specs.Texts.{IsUnder, IsSpecOf, IsLassoOf}
 use Rattle.bonsai_run.specs.Answers.{IsAnswer, IsVerdict, bounds_of, verdict_of, verdict_text, verdict_comment, downset_text}
 use Rattle.bonsai_run.specs.Answers.IsAnswer.{decided, held, valid, over, holds, fails, generated}
 
@@ -45,15 +45,15 @@ module _ (texts : Option Texts) where
       → IsAnswer texts (check name machine bound as_written) s t
   is_over name machine bound as_written spec text m a s t of under keeps h k = answer_as _ s _ t _ h k (over name machine bound as_written spec text m a of under keeps)
 
-  pub is_holds : (name lasso : List ℕ) (as_written : Bool) (spec : Spec) (text : List ℕ) (w : LassoData) (s : ℕ) (t : List ℕ)
-      → IsSpecOf texts name as_written spec → IsUnder texts lasso text → holds_at w spec.formula 0 ≡ true → s ≡ 0 → t ≡ codes "HOLDS" ++ codes "\n"
+  pub is_holds : (name lasso : List ℕ) (as_written : Bool) (spec : Spec) (w : LassoData) (s : ℕ) (t : List ℕ)
+      → IsSpecOf texts name as_written spec → IsLassoOf texts lasso spec w → holds_at w spec.formula 0 ≡ true → s ≡ 0 → t ≡ codes "HOLDS" ++ codes "\n"
       → IsAnswer texts (eval name lasso as_written) s t
-  is_holds name lasso as_written spec text w s t of under is h k = answer_as _ s _ t _ h k (holds name lasso as_written spec text w of under is)
+  is_holds name lasso as_written spec w s t of under is h k = answer_as _ s _ t _ h k (holds name lasso as_written spec w of under is)
 
-  pub is_fails : (name lasso : List ℕ) (as_written : Bool) (spec : Spec) (text : List ℕ) (w : LassoData) (s : ℕ) (t : List ℕ)
-      → IsSpecOf texts name as_written spec → IsUnder texts lasso text → holds_at w spec.formula 0 ≡ false → s ≡ 40 → t ≡ codes "FAILS" ++ codes "\n"
+  pub is_fails : (name lasso : List ℕ) (as_written : Bool) (spec : Spec) (w : LassoData) (s : ℕ) (t : List ℕ)
+      → IsSpecOf texts name as_written spec → IsLassoOf texts lasso spec w → holds_at w spec.formula 0 ≡ false → s ≡ 40 → t ≡ codes "FAILS" ++ codes "\n"
       → IsAnswer texts (eval name lasso as_written) s t
-  is_fails name lasso as_written spec text w s t of under is h k = answer_as _ s _ t _ h k (fails name lasso as_written spec text w of under is)
+  is_fails name lasso as_written spec w s t of under is h k = answer_as _ s _ t _ h k (fails name lasso as_written spec w of under is)
 
   pub is_generated : (clients workers : ℕ) (spec : Spec) (pair : Pair) (v : Verdict) (s : ℕ) (t : List ℕ)
       → IsSpec (arbiter_text clients) false spec → IsVerdict pair spec.names (bounds_of (0, 1, 8)) v → s ≡ 0 → t ≡ arbiter_text clients ++ verdict_comment v

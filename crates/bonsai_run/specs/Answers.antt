@@ -23,7 +23,7 @@ use Rattle.machine_text.specs.Machines.{machine_text, player_word}
 use Rattle.spec_gen.specs.Arbiter.{arbiter_text}
 use Rattle.bonsai_words.specs.Ordered.{Asked}
 use Rattle.bonsai_words.specs.Ordered.Asked.{synth, downset, check, eval, gen}
-use Rattle.bonsai_run.specs.Texts.{IsUnder, IsSpecOf}
+use Rattle.bonsai_run.specs.Texts.{IsUnder, IsSpecOf, IsLassoOf}
 use Rattle.bonsai_run.specs.declared.answers.Answer.{Answer}
 use Rattle.bonsai_run.specs.declared.verdicts.Verdict.{Verdict}
 use Rattle.bonsai_run.specs.declared.verdicts.Verdict.TheVariants.{Won, Unknown}
@@ -117,11 +117,11 @@ pub data IsAnswer (texts : Option Texts) : Asked → ℕ → List ℕ → Type 0
   over : (name machine : List ℕ) (bound : ℕ) (as_written : Bool) (spec : Spec) (text : List ℕ) (m : MachineData) (a : AutomatonData)
       → IsSpecOf texts name as_written spec → IsUnder texts machine text → (Keeps a m bound → ⊥)
       → IsAnswer texts (check name machine bound as_written) 40 (codes "OVER\n")
-  holds : (name lasso : List ℕ) (as_written : Bool) (spec : Spec) (text : List ℕ) (w : LassoData)
-      → IsSpecOf texts name as_written spec → IsUnder texts lasso text → holds_at w spec.formula 0 ≡ true
+  holds : (name lasso : List ℕ) (as_written : Bool) (spec : Spec) (w : LassoData)
+      → IsSpecOf texts name as_written spec → IsLassoOf texts lasso spec w → holds_at w spec.formula 0 ≡ true
       → IsAnswer texts (eval name lasso as_written) 0 (codes "HOLDS\n")
-  fails : (name lasso : List ℕ) (as_written : Bool) (spec : Spec) (text : List ℕ) (w : LassoData)
-      → IsSpecOf texts name as_written spec → IsUnder texts lasso text → holds_at w spec.formula 0 ≡ false
+  fails : (name lasso : List ℕ) (as_written : Bool) (spec : Spec) (w : LassoData)
+      → IsSpecOf texts name as_written spec → IsLassoOf texts lasso spec w → holds_at w spec.formula 0 ≡ false
       → IsAnswer texts (eval name lasso as_written) 40 (codes "FAILS\n")
   generated : (clients workers : ℕ) (spec : Spec) (pair : Pair) (v : Verdict)
       → IsSpec (arbiter_text clients) false spec → IsVerdict pair spec.names (bounds_of (0, 1, 8)) v

@@ -2,7 +2,9 @@
 use Rattle.std.specs.Prelude.{◌≡◌, ℕ, ◌<◌, ◌≤◌, Bool, List, Option, Some, length}
 use Rattle.shelf_io.specs.Texts.{Texts, text_of}
 use Rattle.tlsf_basic.specs.declared.specifications.Spec.{Spec}
-use Rattle.tlsf_basic.specs.Specification.{IsSpec}
+use Rattle.tlsf_basic.specs.Specification.{IsSpec, signal_count}
+use Rattle.word_core.specs.Lasso.{LassoData}
+use Rattle.machine_text.specs.Lassos.{IsLasso, lasso_text}
 
 -- the text under a name, where the shelf tells its texts
 abbrev pub IsUnder : Option Texts → List ℕ → List ℕ → Type 0
@@ -14,6 +16,10 @@ pub record IsSpecOf (texts : Option Texts) (name : List ℕ) (as_written : Bool)
   pub under : IsUnder texts name text
   pub short : length text ≤ 1048576
   pub is : IsSpec text as_written spec
+
+-- the text under a name is that of a lasso over the specification's signals
+abbrev pub IsLassoOf : Option Texts → List ℕ → Spec → LassoData → Type 0
+IsLassoOf texts name spec w = IsLasso (signal_count spec.names) w × IsUnder texts name (lasso_text (signal_count spec.names) w)
 
 -- there is a longer text under a name
 abbrev pub IsTooLong : Option Texts → List ℕ → Type 0

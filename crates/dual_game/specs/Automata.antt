@@ -1,5 +1,5 @@
 -- The automata of a formula.
-use Rattle.std.specs.Prelude.{◌≡◌, ℕ, ◌<◌, ◌↔◌, Bool, true, not, length}
+use Rattle.std.specs.Prelude.{◌≡◌, ℕ, ◌<◌, ◌↔◌, Bool, true, false, not, length, if◌then◌else◌}
 use Rattle.ltl_form.specs.declared.formulas.Ltl.{Ltl}
 use Rattle.ltl_form.specs.Meaning.{holds_at}
 use Rattle.word_core.specs.declared.names.Player.{Player}
@@ -9,11 +9,14 @@ use Rattle.word_core.specs.Lasso.{LassoData}
 use Rattle.word_core.specs.Run.{Accepts}
 use Rattle.dual_game.specs.declared.games.Pair.{Pair}
 
--- what a player must avoid, where this says whether the formula holds: the system that it fails, the environment that it
--- holds
+-- the system must avoid that the formula fails, and the environment that it holds
+abbrev pub avoids_truth : Player → Bool
+avoids_truth System = false
+avoids_truth Environment = true
+
+-- whether there is what a player must avoid, where this says whether the formula holds
 abbrev pub avoided : Player → Bool → Bool
-avoided System b = not b
-avoided Environment b = b
+avoided who b = if avoids_truth who then b else not b
 
 -- a player's automaton accepts exactly the lassos that the player must avoid
 abbrev pub IsAutomatonOf : Ltl → Player → AutomatonData → Type 0
