@@ -1,5 +1,5 @@
 -- What forms have numbers, one more at a time.
-use Rattle.std.proofs.Common.{Bool, true, false, nat_eq, ◌≡◌, ℕ, suc, ◌+◌, ◌<◌, ◌≤◌, max, List, length, get_or, set, Some, None, refl, ap, sym, ◌∙◌, subst, arith}
+use Rattle.std.proofs.Common.{Bool, true, false, nat_eq, ◌≡◌, ℕ, ◌+◌, ◌<◌, ◌≤◌, max, List, length, get_or, set, Some, None, refl, ap, sym, ◌∙◌, subst, arith}
 use borrow.Author.Tests.{eqb-true, eqb-false}
 use Rattle.std.proofs.lemmas.List.{get_or-set_same, get_or-set_other, length-set}
 use Rattle.std.specs.Prelude.{Result, Ok, Err, IsErrAnd, IfErr}
@@ -112,27 +112,6 @@ module _ (forms : List Form) (old new : NumberingData) (at : ℕ) where
     places = h.places;
   }
 
-  pub over_one : (depth f : ℕ) → tree_at forms at ≡ following (tree_at forms f) → 512 < max (length (numbered (tree_at forms f) (node_trees old.nodes))) (depth + 1 + height (tree_at forms f))
-      → 512 < max (length (operands_numbered (tree_at forms at) (node_trees old.nodes))) (depth + height (tree_at forms at))
-  over_one depth f is h = subst (λ t. 512 < max (length (operands_numbered t (node_trees old.nodes))) (depth + height t)) (sym is) (deeper _ _ _ h)
-    where
-      deeper : (l d k : ℕ) → 512 < max l (d + 1 + k) → 512 < max l (d + suc k)
-      deeper l d k h = omega arith
-
-  pub over_two : (op : Tree → Tree → Tree) (depth f g : ℕ) → tree_at forms at ≡ op (tree_at forms f) (tree_at forms g)
-      → ((t u : Tree) → operands_numbered (op t u) (node_trees old.nodes) ≡ numbered u (numbered t (node_trees old.nodes)))
-      → ((t u : Tree) → height (op t u) ≡ suc (max (height t) (height u)))
-      → 512 < max (length (numbered (tree_at forms g) (numbered (tree_at forms f) (node_trees old.nodes)))) (depth + 1 + max (height (tree_at forms f)) (height (tree_at forms g)))
-      → 512 < max (length (operands_numbered (tree_at forms at) (node_trees old.nodes))) (depth + height (tree_at forms at))
-  over_two op depth f g is parts high h =
-      let t = tree_at forms f in
-      let u = tree_at forms g in
-      subst (λ t. 512 < max (length (operands_numbered t (node_trees old.nodes))) (depth + height t)) (sym is)
-      (deeper _ _ depth (max (height t) (height u)) (height (op t u)) (ap length (parts t u)) (high t u) h)
-    where
-      deeper : (l m d k n : ℕ) → m ≡ l → n ≡ suc k → 512 < max l (d + 1 + k) → 512 < max m (d + n)
-      deeper l m d k n e i h = omega arith
-
   pub over_left : (depth f g : ℕ) → 512 < max (length (numbered (tree_at forms f) (node_trees old.nodes))) (depth + height (tree_at forms f))
       → 512 < max (length (numbered (tree_at forms g) (numbered (tree_at forms f) (node_trees old.nodes)))) (depth + max (height (tree_at forms f)) (height (tree_at forms g)))
   over_left depth f g h =
@@ -140,13 +119,6 @@ module _ (forms : List Form) (old new : NumberingData) (at : ℕ) where
       more _ _ depth (height (tree_at forms f)) (height (tree_at forms g)) longer h
     where
       more : (l m d j k : ℕ) → l ≤ m → 512 < max l (d + j) → 512 < max m (d + max j k)
-      more l m d j k e h = omega arith
-
-  pub over_right : (depth f g m : ℕ) → Numbers forms old new f m → 512 < max (length (numbered (tree_at forms g) (node_trees new.nodes))) (depth + height (tree_at forms g))
-      → 512 < max (length (numbered (tree_at forms g) (numbered (tree_at forms f) (node_trees old.nodes)))) (depth + max (height (tree_at forms f)) (height (tree_at forms g)))
-  over_right depth f g m a h = more _ _ depth (height (tree_at forms f)) (height (tree_at forms g)) (ap (λ us. length (numbered (tree_at forms g) us)) a.trees) h
-    where
-      more : (l m d j k : ℕ) → l ≡ m → 512 < max l (d + k) → 512 < max m (d + max j k)
       more l m d j k e h = omega arith
 
   pub over_deep : (depth : ℕ) → depth ≡ 512 → 512 < max (length (numbered (tree_at forms at) (node_trees old.nodes))) (depth + height (tree_at forms at))

@@ -1,5 +1,5 @@
 -- Rows of truth values, one position or one formula more.
-use Rattle.std.proofs.Common.{Vec, Global, ◌≡◌, ℕ, zero, suc, ◌+◌, ◌-◌, ◌<◌, ◌≤◌, Bool, true, false, ◌&&◌, ◌||◌, nat_eq, ◌⊎◌, inl, inr, List, [], ◌∷◌, ◌++◌, length, get_or, set, refl, ap, sym, ◌∙◌, subst, arith}
+use Rattle.std.proofs.Common.{Vec, Global, ◌≡◌, ℕ, zero, suc, ◌+◌, ◌-◌, ◌<◌, ◌≤◌, Bool, true, false, nat_eq, ◌⊎◌, inl, inr, List, [], ◌∷◌, ◌++◌, length, get_or, set, refl, ap, sym, ◌∙◌, subst, arith}
 use borrow.Author.Tests.{eqb-true, eqb-false}
 use Rattle.std.proofs.lemmas.Bool.{cases_lt}
 use Rattle.std.proofs.lemmas.List.{get_or_append_left, get_or_push, length_push, get_or-set_same, get_or-set_other}
@@ -7,30 +7,10 @@ use Rattle.word_core.specs.Lasso.{LassoData, size}
 use Rattle.ltl_form.specs.Meaning.{after, until_within, release_within, until_at, release_at, tree_holds}
 use Rattle.ltl_form.specs.Rows.{at, Tells, AreRows}
 use Rattle.ltl_form.specs.Tree.{Tree, truth}
-use Rattle.ltl_form.proofs.Truths.{both_and, both_or}
 use Rattle.ltl_form.proofs.Walks.{after_next, after_last, after_below, until_enough, release_enough, until_near, release_near}
-
-pub tells_none : (f : ℕ → Bool) → Tells 0 f []
-tells_none f = record { long = refl; says = λ p l. absurd (omega arith) }
-
-pub tells_more : (n : ℕ) (f : ℕ → Bool) (row : List Bool) (b : Bool) → Tells n f row → b ≡ f n → Tells (n + 1) f (row ++ b ∷ [])
-tells_more n f row b h is = record {
-  long = omega (arith, length_push row b, h.long);
-  says = λ p l. by p l (cases_lt p n);
-}
-  where
-    by : (p : ℕ) → p < n + 1 → (p < n) ⊎ (n ≤ p) → at (row ++ b ∷ []) p ≡ f p
-    by p l (inl e) = get_or_append_left row (b ∷ []) false p (omega (arith, h.long)) ∙ h.says p e
-    by p l (inr e) = let here : n ≡ p = omega arith in get_or_push row b false p (omega (arith, h.long)) ∙ is ∙ ap f here
 
 pub tells_same : (n : ℕ) (f g : ℕ → Bool) (row : List Bool) → ((p : ℕ) → p < n → f p ≡ g p) → Tells n f row → Tells n g row
 tells_same n f g row same h = record { long = h.long; says = λ p l. h.says p l ∙ same p l }
-
-pub both_tell : (n : ℕ) (f g : ℕ → Bool) (fs gs row : List Bool) → Tells n f fs → Tells n g gs → Tells n (λ p. at fs p && at gs p) row → Tells n (λ p. f p && g p) row
-both_tell n f g fs gs row h k = tells_same n _ _ row (λ p l. both_and (at fs p) (at gs p) (f p) (g p) (h.says p l) (k.says p l))
-
-pub one_tells : (n : ℕ) (f g : ℕ → Bool) (fs gs row : List Bool) → Tells n f fs → Tells n g gs → Tells n (λ p. at fs p || at gs p) row → Tells n (λ p. f p || g p) row
-one_tells n f g fs gs row h k = tells_same n _ _ row (λ p l. both_or (at fs p) (at gs p) (f p) (g p) (h.says p l) (k.says p l))
 
 module _ (w : LassoData) (some : length w.stem < size w) where
   pub next_tells : (f : ℕ → Bool) (fs row : List Bool) → Tells (size w) f fs → Tells (size w) (λ p. at fs (after w p)) row → Tells (size w) (λ p. f (after w p)) row

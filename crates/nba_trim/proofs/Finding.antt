@@ -2,20 +2,10 @@
 use Rattle.std.proofs.Common.{◌≡◌, ℕ, ◌+◌, ◌<◌, ◌≤◌, ◌⊎◌, inl, inr, Bool, true, false, nat_eq, List, [], ◌∷◌, ◌++◌, length, get_or, set, take, replicate, refl, ap, sym, ◌∙◌, subst, arith}
 use Rattle.std.specs.List.{Contains}
 use borrow.Author.Tests.{eqb-true, eqb-false}
-use Rattle.std.proofs.lemmas.List.{get_or_default, take_more, length_push, length-set, get_or_append_left, get_or-set_same, get_or-set_other}
+use Rattle.std.proofs.lemmas.List.{get_or_default, take_more, length_push, length-set, get_or-set_same, get_or-set_other}
 use Rattle.std.proofs.lemmas.List.Elements.{All-nil, All-push, All-weaker, Contains-push, Contains-push_cases, Contains-append_left}
 use Rattle.nba_trim.specs.Search.{AreStates, SearchData, IsSearch, Finds, at, trues}
 use Rattle.nba_trim.proofs.Trues.{trues_low, trues_set, trues_none, none_true}
-
-pub finds_none : (P : ℕ → Type 0) (s : SearchData) → ((q : ℕ) → P q → at s.found q ≡ true) → Finds P s s
-finds_none P s none = record {
-  count = refl;
-  longer = omega arith;
-  same = λ k d l. refl;
-  kept = λ q h. h;
-  sound = λ q h. inl h;
-  complete = none;
-}
 
 pub finds_more : (P Q R : ℕ → Type 0) (a b c : SearchData) → Finds P a b → Finds Q b c → ((q : ℕ) → R q → P q ⊎ Q q) → ((q : ℕ) → P q → R q) → ((q : ℕ) → Q q → R q) → Finds R a c
 finds_more P Q R a b c f g cut left right = record {
@@ -68,18 +58,6 @@ finds_next xs live i d x a b c l is f g =
     cut q r (inl c) = inl (c, r.1)
     cut q r (inr e) = let same : q ≡ x = e ∙ sym is in inr (same, ap (at live) (sym same) ∙ r.1)
 
--- one more of the states below a number is found where a test says so
-pub finds_below : (test : ℕ → Bool) (n : ℕ) (a b c : SearchData) → Finds (λ p. (p < n) × (test p ≡ true)) a b → Finds (λ p. (p ≡ n) × (test n ≡ true)) b c → Finds (λ p. (p < n + 1) × (test p ≡ true)) a c
-finds_below test n a b c f g =
-    finds_more (λ p. (p < n) × (test p ≡ true)) (λ p. (p ≡ n) × (test n ≡ true)) (λ p. (p < n + 1) × (test p ≡ true)) a b c f g
-    (λ q r. cut q r (nat_eq q n) refl)
-    (λ q p. (omega (arith, p.0), p.1))
-    (λ q r. (omega (arith, r.0), ap test r.0 ∙ r.1))
-  where
-    cut : (q : ℕ) → (q < n + 1) × (test q ≡ true) → (t : Bool) → nat_eq q n ≡ t → ((q < n) × (test q ≡ true)) ⊎ ((q ≡ n) × (test n ≡ true))
-    cut q r true e = let same : q ≡ n = eqb-true q n e in inr (same, ap test (sym same) ∙ r.1)
-    cut q r false e = let other : q ≡ n → ⊥ = eqb-false q n e in inl (omega (arith, r.0), r.1)
-
 module _ (found : List Bool) (queue : List ℕ) (q : ℕ) (within : q < length found) (new : at found q ≡ false) where
   at_set : (p : ℕ) → at found p ≡ true → at (set found q true) p ≡ true
   at_set p h = go (nat_eq p q) refl
@@ -94,20 +72,6 @@ module _ (found : List Bool) (queue : List ℕ) (q : ℕ) (within : q < length f
       go : (b : Bool) → nat_eq p q ≡ b → (at found p ≡ true) ⊎ (p ≡ q)
       go true e = inr (eqb-true p q e)
       go false e = inl (sym (get_or-set_other found q p true false (eqb-false p q e)) ∙ h)
-
-  pub finds_push : (is_wanted : Bool) → is_wanted ≡ true → Finds (λ p. (p ≡ q) × (is_wanted ≡ true)) (record { found = found; queue = queue }) (record { found = set found q true; queue = queue ++ q ∷ [] })
-  finds_push is_wanted wanted = record {
-    count = length-set found q true;
-    longer = omega (arith, length_push queue q);
-    same = λ k d l. get_or_append_left queue (q ∷ []) d k l;
-    kept = at_set;
-    sound = λ p h. which p (set_cases p h);
-    complete = λ p h. ap (at (set found q true)) h.0 ∙ get_or-set_same found q true false within;
-  }
-    where
-      which : (p : ℕ) → (at found p ≡ true) ⊎ (p ≡ q) → (at found p ≡ true) ⊎ ((p ≡ q) × (is_wanted ≡ true))
-      which p (inl h) = inl h
-      which p (inr e) = inr (e, wanted)
 
   pub search_push : IsSearch found queue → IsSearch (set found q true) (queue ++ q ∷ [])
   search_push s = record {

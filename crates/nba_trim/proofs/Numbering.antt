@@ -1,5 +1,5 @@
 -- New numbers of kept states: the place of each among them.
-use Rattle.std.proofs.Common.{◌≡◌, ℕ, zero, suc, ◌+◌, ◌<◌, ◌≤◌, ◌⊎◌, inl, inr, Bool, true, false, not, cond, if◌then◌else◌, nat_eq, List, [], ◌∷◌, ◌++◌, length, get_or, set, replicate, Option, Some, None, refl, ap, sym, ◌∙◌, subst, arith}
+use Rattle.std.proofs.Common.{◌≡◌, ℕ, zero, suc, ◌+◌, ◌<◌, ◌≤◌, ◌⊎◌, inl, inr, Bool, true, false, not, cond, if◌then◌else◌, nat_eq, List, [], ◌∷◌, ◌++◌, length, get_or, set, Option, Some, None, refl, ap, sym, ◌∙◌, subst, arith}
 use Rattle.std.specs.Option.{IfSome}
 use Rattle.std.specs.List.{AllPairs, Contains, position, position_or_len}
 use borrow.Author.Tests.{eqb-true, eqb-false, eq-eqb, lt-ltb}
@@ -94,32 +94,10 @@ below_more told q kept h = go (at told q) refl
       complete = λ x l t. rest e x l t (nat_eq x q) refl;
     }
 
-pub below_all : (told : List Bool) (q : ℕ) (kept : List ℕ) → q ≡ length told → AreBelow told q kept → AreTrue told kept
-below_all told q kept e h = record {
-  ascending = h.ascending;
-  fewer = omega (arith, h.fewer, e);
-  sound = λ x c. (h.sound x c).1;
-  complete = λ x t. let l = true_within told x t in h.complete x (omega (arith, l, e)) t;
-}
-
 -- the first kept states have numbers
 pub record AreGiven (numbers : List (Option ℕ)) (kept : List ℕ) (k : ℕ) : Type 0 where
   pub given : (q j : ℕ) → get_or numbers q None ≡ Some j → (j < k) × (get_or kept j 0 ≡ q)
   pub all : (j : ℕ) → j < k → get_or numbers (get_or kept j 0) None ≡ Some j
-
-abbrev nones : ℕ → List (Option ℕ)
-nones n = replicate n None
-
-none_at : (n q : ℕ) → get_or (nones n) q None ≡ None
-none_at zero q = refl
-none_at (suc n) zero = refl
-none_at (suc n) (suc q) = none_at n q
-
-pub given_none : (numbers : List (Option ℕ)) (count : ℕ) (kept : List ℕ) → numbers ≡ nones count → AreGiven numbers kept 0
-given_none numbers count kept is = record {
-  given = λ q j h. let n : get_or numbers q None ≡ None = ap (λ l. get_or l q None) is ∙ none_at count q in absurd (cc);
-  all = λ j l. absurd (omega arith);
-}
 
 pub given_more : (numbers : List (Option ℕ)) (kept : List ℕ) (k : ℕ) → AllPairs (λ p q. p < q) kept → k < length kept → get_or kept k 0 < length numbers → AreGiven numbers kept k
     → AreGiven (set numbers (get_or kept k 0) (Some k)) kept (k + 1)

@@ -1,9 +1,8 @@
 -- The states with an edge to each state, one state or one edge more.
-use Rattle.std.proofs.Common.{◌≡◌, ℕ, ◌+◌, ◌<◌, ◌≤◌, ◌⊎◌, inl, inr, Bool, true, false, nat_eq, List, [], ◌∷◌, ◌++◌, length, get_or, set, take, All, refl, ap, sym, ◌∙◌, subst, arith}
+use Rattle.std.proofs.Common.{◌≡◌, ℕ, ◌+◌, ◌<◌, ◌⊎◌, inl, inr, Bool, true, false, nat_eq, List, [], ◌∷◌, ◌++◌, length, get_or, set, take, refl, ap, sym, ◌∙◌, subst, arith}
 use Rattle.std.specs.List.{Contains}
 use borrow.Author.Tests.{eqb-true, eqb-false}
-use Rattle.std.proofs.lemmas.Bool.{cases_lt}
-use Rattle.std.proofs.lemmas.List.{get_or-map, length-map, take-map, length-set, get_or-set_same, get_or-set_other, get_or_past}
+use Rattle.std.proofs.lemmas.List.{get_or-map, length-map, take-map, length-set, get_or-set_same, get_or-set_other}
 use Rattle.std.proofs.lemmas.List.Elements.{All-set, All-push, All-get_or, Contains-append_left, Contains-push, Contains-push_cases}
 use Rattle.word_core.specs.declared.automata.Edge.{Edge}
 use Rattle.word_core.specs.Automaton.{AutomatonData, edges_at}
@@ -114,16 +113,3 @@ sources_more a q old new s h = record {
         let x_is : x ≡ q = eqb-true x q e in
         subst (Contains (get_or new p [])) (sym x_is) (h.complete p (subst (λ y. Contains (ends (edges_at a y)) p) x_is c))
     whole p x l c false e = let other : x ≡ q → ⊥ = eqb-false x q e in h.kept p x (s.complete p x (omega arith) c)
-
-pub sources_none : (a : AutomatonData) (before : List (List ℕ)) → All (λ sources. sources ≡ []) before → AreSources a 0 before
-sources_none a before none = record {
-  sound = λ p x c. let e : Contains [] x = subst (λ xs. Contains xs x) (empty p) c in absurd (omega (arith, e.1));
-  complete = λ p x l c. absurd (omega arith);
-}
-  where
-    empty : (p : ℕ) → get_or before p [] ≡ []
-    empty p = by (cases_lt p (length before))
-      where
-        by : (p < length before) ⊎ (length before ≤ p) → get_or before p [] ≡ []
-        by (inl l) = none p [] l
-        by (inr l) = get_or_past before p [] l

@@ -24,12 +24,6 @@ none_true zero q = refl
 none_true (suc n) zero = refl
 none_true (suc n) (suc q) = none_true n q
 
-pub past_false : (n q : ℕ) → n ≤ q → (bs : List Bool) → length bs ≡ n → at bs q ≡ false
-past_false n q l [] e = refl
-past_false n zero l (b ∷ bs) e = absurd (omega arith)
-past_false zero (suc q) l (b ∷ bs) e = absurd (omega arith)
-past_false (suc n) (suc q) l (b ∷ bs) e = past_false n q (omega arith) bs (omega arith)
-
 pub true_within : (bs : List Bool) (q : ℕ) → at bs q ≡ true → q < length bs
 true_within [] q h = absurd (cc)
 true_within (b ∷ bs) zero h = omega arith
