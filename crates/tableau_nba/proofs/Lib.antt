@@ -1,6 +1,10 @@
 pub mod CubeBits
 pub mod Edges
+pub mod Found
 pub mod Growing
+pub mod Lassos
+pub mod Meanings
 pub mod Ranges
+pub mod Rows
 pub mod Spots
 pub mod Visits
