@@ -25,11 +25,11 @@ Is x (y ∷ ys) = (y ≡ x) ⊎ Is x ys
 
 pub is_contained : {X : Type 0} (xs : List X) (x : X) → Contains xs x → Is x xs
 is_contained [] x c = absurd (omega (arith, c.1))
-is_contained (y ∷ ys) x c = go c.0 c.1 c.2
+is_contained (y ∷ ys) x c = go c.0 c.1 c.2 (λ k. is_contained ys x k)
   where
-    go : (k : ℕ) → k < suc (length ys) → get_or (y ∷ ys) k x ≡ x → (y ≡ x) ⊎ Is x ys
-    go zero l e = inl e
-    go (suc k) l e = inr (is_contained ys x (k, omega arith, e))
+    go : (k : ℕ) → k < suc (length ys) → get_or (y ∷ ys) k x ≡ x → (Contains ys x → Is x ys) → (y ≡ x) ⊎ Is x ys
+    go zero l e rec = inl e
+    go (suc k) l e rec = inr (rec (k, omega arith, e))
 
 pub contained_is : {X : Type 0} (xs : List X) (x : X) → Is x xs → Contains xs x
 contained_is [] x m = absurd m
@@ -66,8 +66,8 @@ is_either (z ∷ zs) y x (inr m) = go (is_either zs y x m)
     go (inr k) = inr k
 
 any_is : {X : Type 0} (p : X → Bool) (xs : List X) → list_any p xs ≡ true → (x : X) × Is x xs × (p x ≡ true)
-any_is p [] h = absurd (both_ways false refl h)
-any_is p (x ∷ xs) h = go (or_cases _ _ h) (λ k. any_is p xs k)
+any_is {X = X} p [] h = absurd (both_ways false refl h)
+any_is {X = X} p (x ∷ xs) h = go (or_cases _ _ h) (λ k. any_is p xs k)
   where
     go : (p x ≡ true) ⊎ (list_any p xs ≡ true) → (list_any p xs ≡ true → (y : X) × Is y xs × (p y ≡ true)) → (y : X) × Is y (x ∷ xs) × (p y ≡ true)
     go (inl e) rec = (x, inl refl, e)

@@ -1,4 +1,5 @@
 pub mod CubeBits
+pub mod CubeTruth
 pub mod Edges
 pub mod Found
 pub mod Growing
@@ -6,5 +7,6 @@ pub mod Lassos
 pub mod Meanings
 pub mod Ranges
 pub mod Rows
+pub mod Runs
 pub mod Spots
 pub mod Visits

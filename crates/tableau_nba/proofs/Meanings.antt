@@ -190,7 +190,7 @@ contrary_lits (Lit x true) (Until f g) h = absurd (both_ways false refl h)
 contrary_lits (Lit x true) (Release f g) h = absurd (both_ways false refl h)
 
 -- a formula that is no constant has its place among the formulas
-lit_within : (nodes : List Node) (n x : ℕ) (s : Bool) → node_at nodes n ≡ Lit x s → n < length nodes
+pub lit_within : (nodes : List Node) (n x : ℕ) (s : Bool) → node_at nodes n ≡ Lit x s → n < length nodes
 lit_within nodes n x s h = go (nat_lt n (length nodes)) refl
   where
     go : (b : Bool) → nat_lt n (length nodes) ≡ b → n < length nodes
@@ -307,7 +307,7 @@ module _ (nodes : List Node) (root : ℕ) (normal : IsNormal nodes root) (w : La
 
   -- ---- covers of a set
 
-  times_some : (list row : Row) (xs : List CoverSets) → times (opposites nodes) list row ≡ Some xs
+  pub times_some : (list row : Row) (xs : List CoverSets) → times (opposites nodes) list row ≡ Some xs
       → (xs' : List CoverSets) × (bs : List CoverSets) × (list ≡ Some xs') × (row ≡ Some bs) × (reduced (opposites nodes) (products xs' bs) ≡ xs)
   times_some list row xs h =
       let r = reduced_some (opposites nodes) (with_two products list row) xs h in
