@@ -10,6 +10,7 @@ use Rattle.ltl_form.specs.declared.normals.Node.TheVariants.{True, False, Lit, A
 use Rattle.ltl_form.specs.Normal.{IsNodeAt, IsNormal}
 use Rattle.ltl_form.specs.Meaning.{after, release_within, signal_at, tree_holds, until_at, until_within}
 use Rattle.ltl_form.specs.NodeTrees.{formula_at}
+use Rattle.ltl_form.specs.Tree.{literal}
 use Rattle.word_core.specs.declared.automata.Edge.{Edge}
 use Rattle.word_core.specs.Automaton.{AutomatonData, edges_at}
 use Rattle.word_core.specs.Cube.{holds}
@@ -340,3 +341,298 @@ module _ (nodes : List Node) (root : ℕ) (normal : IsNormal nodes root) (w : La
   sound : (b n : ℕ) → n < b → n < length nodes → Sound b n
   sound zero n l k m i x s r h q = absurd (omega arith)
   sound (suc b) n l k m i x s r h q = sound_node b n (node_at nodes n) k refl (normal.below n True k) (λ j o. sound b j (omega arith) (omega arith)) m i x s r h q
+
+  -- ---- from truth to runs
+
+  abbrev pub Fine : Spot → ℕ → Type 0
+  Fine s i = (n : ℕ) → has s.set n ≡ true → holds_now nodes root normal w some n i ≡ true
+
+  -- m letters from letter i on by true covers, from one state to another, with so many marks
+  abbrev pub Path : ℕ → ℕ → Spot → ℕ → Spot → Type 0
+  Path zero i s k t = (k ≡ 0) × (s ≡ t)
+  Path (suc m) i s k t = (c : CoverSets) × Taken s c × Good nodes root normal w some c i × (left : ℕ) × (k ≡ mark_of s c + left) × Path m (suc i) (to_next s c) left t
+
+  path_append : (m m' i : ℕ) (s : Spot) (k k' : ℕ) (t u : Spot) → Path m i s k t → Path m' (i + m) t k' u → Path (m + m') i s (k + k') u
+  path_append zero m' i s k k' t u p q =
+      let a : 0 + m' ≡ m' = omega arith in
+      let b : i + 0 ≡ i = omega arith in
+      let c : k + k' ≡ k' = omega (arith, p.0) in
+      subst (λ x. Path x i s (k + k') u) (sym a) (subst (λ x. Path m' i s x u) (sym c) (subst (λ x. Path m' i x k' u) (sym p.1) (subst (λ x. Path m' x t k' u) b q)))
+  path_append (suc m) m' i s k k' t u p q =
+      let a : suc m + m' ≡ suc (m + m') = omega arith in
+      let b : i + suc m ≡ suc i + m = omega arith in
+      let c : k + k' ≡ mark_of s p.0 + (p.3 + k') = omega (arith, p.4) in
+      subst (λ x. Path x i s (k + k') u) (sym a)
+      (p.0, p.1, p.2, p.3 + k', c, path_append m m' (suc i) (to_next s p.0) p.3 k' t u p.5 (subst (λ x. Path m' x t k' u) b q))
+
+  fine_next : (s : Spot) (c : CoverSets) (i : ℕ) → Good nodes root normal w some c i → Fine (to_next s c) (suc i)
+  fine_next s c i g n h = g.next n h
+
+  module _ (signals : ℕ) (spots : List Spot) (fnd : all_spots (walk_data nodes signals) root ≡ found spots) where
+    extends : Extends (walk_data nodes signals) 0 (first_spot root ∷ []) spots
+    extends = walk_found (walk_data nodes signals) 4096 0 (first_spot root ∷ []) spots refl (omega arith) fnd
+
+    first_here : (d : Spot) → get_or spots 0 d ≡ first_spot root
+    first_here d = ap (λ xs. get_or xs 0 d) extends.is
+
+    some_spots : 0 < length spots
+    some_spots = subst (λ xs. 0 < length xs) (sym extends.is) (omega arith)
+
+    none : Spot
+    none = first_spot root
+
+    abbrev InSpots : Spot → Type 0
+    InSpots s = (q : ℕ) × (q < length spots) × (get_or spots q (first_spot root) ≡ s)
+
+    led_in : (s : Spot) → InSpots s → Led (walk_data nodes signals) spots s
+    led_in s p = subst (Led (walk_data nodes signals) spots) p.2 (extends.led p.0 (first_spot root) (omega arith) p.1)
+
+    same_list : (s : Spot) (c : CoverSets) (p : Led (walk_data nodes signals) spots s) → Taken s c → IsIn c p.list
+    same_list s c p t = let e : t.0 ≡ p.list = some_eq (sym t.1 ∙ p.is) in subst (λ xs. IsIn c xs) e t.2
+      where
+        some_eq : {A : Type 0} {a b : A} → Some a ≡ Some b → a ≡ b
+        some_eq h = cc
+
+    -- a cover of a state leads to a state
+    goes_to : (s : Spot) (c : CoverSets) → InSpots s → Taken s c
+        → (position_or_len (same_spot (to_next s c)) spots < length spots) × (get_or spots (position_or_len (same_spot (to_next s c)) spots) (first_spot root) ≡ to_next s c)
+    goes_to s c p t =
+        let l = led_in s p in
+        let r = leads_to (untils_in nodes) spots s.level l.list c l.leads_in (in_is l.list c (same_list s c l t)) in
+        (r.0, r.1 (first_spot root))
+
+    next_in : (s : Spot) (c : CoverSets) → InSpots s → Taken s c → InSpots (to_next s c)
+    next_in s c p t = let r = goes_to s c p t in (position_or_len (same_spot (to_next s c)) spots, r.0, r.1)
+
+    chosen : (s : Spot) (i : ℕ) → InSpots s → Fine s i → (c : CoverSets) × Taken s c × Good nodes root normal w some c i
+    chosen s i p f =
+        let l = led_in s p in
+        let g = set_good nodes root normal w some s.set l.list i l.is f in
+        (g.0, (l.list, l.is, g.1), g.2)
+
+    pub record Reaches (s : Spot) (i : ℕ) : Type 0 where
+      pub steps : ℕ
+      pub end : Spot
+      pub marks : ℕ
+      pub path : Path steps i s marks end
+      pub some_mark : 1 ≤ marks
+      pub inside : InSpots end
+      pub fine : Fine end (i + steps)
+
+    reaches_now : (s : Spot) (i : ℕ) (c : CoverSets) → InSpots s → Taken s c → Good nodes root normal w some c i → is_marked (untils_in nodes) s.level c ≡ true → Reaches s i
+    reaches_now s i c p t g m =
+        let a : mark_of s c ≡ 1 = ap (λ b. cond b 1 0) m in
+        let b : suc i ≡ i + 1 = omega arith in
+        record {
+          steps = 1;
+          end = to_next s c;
+          marks = 1;
+          path = (c, t, g, 0, omega arith, (refl, refl));
+          some_mark = omega arith;
+          inside = next_in s c p t;
+          fine = subst (Fine (to_next s c)) b (fine_next s c i g);
+        }
+
+    reaches_on : (s : Spot) (i : ℕ) (c : CoverSets) → Taken s c → Good nodes root normal w some c i → Reaches (to_next s c) (suc i) → Reaches s i
+    reaches_on s i c t g r =
+        let b : suc i + r.steps ≡ i + suc r.steps = omega arith in
+        record {
+          steps = suc r.steps;
+          end = r.end;
+          marks = mark_of s c + r.marks;
+          path = (c, t, g, r.marks, refl, r.path);
+          some_mark = omega (arith, r.some_mark);
+          inside = r.inside;
+          fine = subst (Fine r.end) b r.fine;
+        }
+
+    -- an until that is put off at a state still waits at the next one
+    abbrev Waits : ℕ → Spot → ℕ → Type 0
+    Waits d s i = (f : ℕ) × (g : ℕ) × (node_at nodes (get_or (untils_in nodes) s.level 0) ≡ Until f g)
+        × (until_within w (λ x. tree_holds w (formula_at nodes f) x) (λ x. tree_holds w (formula_at nodes g) x) d (pos w i) ≡ true)
+
+    risen_more : (s : Spot) (c : CoverSets) → s.level ≤ risen (untils_in nodes) s.level c
+    risen_more s c = omega arith
+
+    -- where the edge isn't marked, the until at the new level is put off and waits
+    waits_next : (s : Spot) (i : ℕ) (c : CoverSets) → Good nodes root normal w some c i → is_marked (untils_in nodes) s.level c ≡ false
+        → ((to_next s c).level ≡ risen (untils_in nodes) s.level c) × (risen (untils_in nodes) s.level c < length (untils_in nodes)) × Waits (size w) (to_next s c) (suc i)
+    waits_next s i c g m =
+        let l : risen (untils_in nodes) s.level c < length (untils_in nodes) = leb-false (length (untils_in nodes)) (risen (untils_in nodes) s.level c) m in
+        let e : (to_next s c).level ≡ risen (untils_in nodes) s.level c = ap (λ b. cond b 0 (risen (untils_in nodes) s.level c)) m in
+        let u = until_at_place nodes (risen (untils_in nodes) s.level c) 0 l in
+        let h = g.postponed (get_or (untils_in nodes) (risen (untils_in nodes) s.level c) 0) (risen_stop (untils_in nodes) s.level 0 c l) u.0 u.1 u.2 in
+        let k = until_within_nodes nodes (get_or (untils_in nodes) (risen (untils_in nodes) s.level c) 0) u.0 u.1 u.2 in
+        (e, l, (u.0, u.1, ap (λ j. node_at nodes (get_or (untils_in nodes) j 0)) e ∙ u.2,
+                sym (holds_node nodes root normal w some (get_or (untils_in nodes) (risen (untils_in nodes) s.level c) 0) (suc i) (Until u.0 u.1) k u.2) ∙ h.1))
+
+    -- by how many untils are left above the level, and then by how far the until at the level is
+    reach_within : (n d : ℕ) (s : Spot) (i : ℕ) → ((t : Spot) (j : ℕ) → s.level < t.level → t.level < length (untils_in nodes) → InSpots t → Fine t j → Waits (size w) t j → Reaches t j)
+        → s.level < length (untils_in nodes) → InSpots s → Fine s i → Waits d s i → Reaches s i
+    reach_within n zero s i up l p f h = absurd (both_ways false refl h.3)
+    reach_within n (suc d) s i up l p f h =
+        let c = chosen s i p f in
+        go c.0 c.1 c.2 (is_marked (untils_in nodes) s.level c.0) refl (λ t up' l' p' f' h'. reach_within n d t (suc i) up' l' p' f' h')
+      where
+        stays : (c : CoverSets) → Taken s c → (g : Good nodes root normal w some c i) → risen (untils_in nodes) s.level c ≡ s.level → risen (untils_in nodes) s.level c < length (untils_in nodes)
+            → until_within w (λ x. tree_holds w (formula_at nodes h.0) x) (λ x. tree_holds w (formula_at nodes h.1) x) d (pos w (suc i)) ≡ true
+        stays c t g e l' =
+            let stop : has c.postponed (get_or (untils_in nodes) s.level 0) ≡ true = subst (λ j. has c.postponed (get_or (untils_in nodes) j 0) ≡ true) e (risen_stop (untils_in nodes) s.level 0 c l') in
+            let off = g.postponed (get_or (untils_in nodes) s.level 0) stop h.0 h.1 h.2 in
+            waiting (tree_holds w (formula_at nodes h.1) (pos w i)) (tree_holds w (formula_at nodes h.0) (pos w i)) _ off.0 h.3
+          where
+            waiting : (a b c : Bool) → a ≡ false → (a || (b && c)) ≡ true → c ≡ true
+            waiting true b c x y = absurd (both_ways true x refl)
+            waiting false true c x y = y
+            waiting false false c x y = absurd (both_ways false refl y)
+        go : (c : CoverSets) → Taken s c → (g : Good nodes root normal w some c i) → (b : Bool) → is_marked (untils_in nodes) s.level c ≡ b
+            → ((t : Spot) → ((u : Spot) (j : ℕ) → t.level < u.level → u.level < length (untils_in nodes) → InSpots u → Fine u j → Waits (size w) u j → Reaches u j)
+               → t.level < length (untils_in nodes) → InSpots t → Fine t (suc i) → Waits d t (suc i) → Reaches t (suc i)) → Reaches s i
+        go c t g true m rec = reaches_now s i c p t g m
+        go c t g false m rec =
+            let v = waits_next s i c g m in
+            reaches_on s i c t g (level (eqb (risen (untils_in nodes) s.level c) s.level) refl v.0 v.1 v.2)
+          where
+            level : (b : Bool) → eqb (risen (untils_in nodes) s.level c) s.level ≡ b → (to_next s c).level ≡ risen (untils_in nodes) s.level c → risen (untils_in nodes) s.level c < length (untils_in nodes)
+                → Waits (size w) (to_next s c) (suc i) → Reaches (to_next s c) (suc i)
+            level true e a b' wt =
+                let same : (to_next s c).level ≡ s.level = a ∙ eqb-true (risen (untils_in nodes) s.level c) s.level e in
+                rec (to_next s c) (λ u j x y z q r. up u j (omega arith) y z q r) (omega arith) (next_in s c p t) (fine_next s c i g)
+                (h.0, h.1, ap (λ j. node_at nodes (get_or (untils_in nodes) j 0)) same ∙ h.2, stays c t g (eqb-true (risen (untils_in nodes) s.level c) s.level e) b')
+            level false e a b' wt =
+                let ne = eqb-false (risen (untils_in nodes) s.level c) s.level e in
+                let more = risen_more s c in
+                up (to_next s c) (suc i) (omega arith) (omega arith) (next_in s c p t) (fine_next s c i g) wt
+
+    reach_from : (n : ℕ) (s : Spot) (i : ℕ) → length (untils_in nodes) ≤ s.level + n → s.level < length (untils_in nodes) → InSpots s → Fine s i → Waits (size w) s i → Reaches s i
+    reach_from zero s i k l p f h = absurd (omega arith)
+    reach_from (suc n) s i k l p f h = reach_within n (size w) s i (λ t j x y q r v. reach_from n t j (omega arith) y q r v) l p f h
+
+    reach_mark : (s : Spot) (i : ℕ) → InSpots s → Fine s i → Reaches s i
+    reach_mark s i p f = let c = chosen s i p f in go c.0 c.1 c.2 (is_marked (untils_in nodes) s.level c.0) refl
+      where
+        go : (c : CoverSets) → Taken s c → (g : Good nodes root normal w some c i) → (b : Bool) → is_marked (untils_in nodes) s.level c ≡ b → Reaches s i
+        go c t g true m = reaches_now s i c p t g m
+        go c t g false m =
+            let v = waits_next s i c g m in
+            reaches_on s i c t g (reach_from (length (untils_in nodes)) (to_next s c) (suc i) (omega arith) (omega (arith, v.0, v.1)) (next_in s c p t) (fine_next s c i g) v.2)
+
+    pub record ReachesMany (b : ℕ) (s : Spot) : Type 0 where
+      pub steps : ℕ
+      pub end : Spot
+      pub marks : ℕ
+      pub path : Path steps 0 s marks end
+      pub many : b ≤ marks
+      pub inside : InSpots end
+      pub fine : Fine end (0 + steps)
+
+    reach_many : (b : ℕ) (s : Spot) → InSpots s → Fine s 0 → ReachesMany b s
+    reach_many zero s p f = record { steps = 0; end = s; marks = 0; path = (refl, refl); many = omega arith; inside = p; fine = f }
+    reach_many (suc b) s p f =
+        let r = reach_many b s p f in
+        let q = reach_mark r.end (0 + r.steps) r.inside r.fine in
+        let a : 0 + r.steps + q.steps ≡ 0 + (r.steps + q.steps) = omega arith in
+        record {
+          steps = r.steps + q.steps;
+          end = q.end;
+          marks = r.marks + q.marks;
+          path = path_append r.steps q.steps 0 s r.marks q.marks r.end q.end r.path q.path;
+          many = omega (arith, r.many, q.some_mark);
+          inside = q.inside;
+          fine = subst (Fine q.end) a q.fine;
+        }
+
+    -- ---- runs of the automaton
+
+    abbrev Auto : AutomatonData
+    Auto = automaton_in (walk_data nodes signals) spots
+
+    edges_of : (q : ℕ) → q < length spots → edges_at (automaton_in (walk_data nodes signals) spots) q ≡ state_in (walk_data nodes signals) spots (get_or spots q (first_spot root))
+    edges_of q l = get_or-map (state_in (walk_data nodes signals) spots) spots q (first_spot root) [] l
+
+    state_edges : (s : Spot) (l : Led (walk_data nodes signals) spots s) → state_in (walk_data nodes signals) spots s ≡ edges_in (literals_in nodes) (untils_in nodes) spots s.level l.list
+    state_edges s l = ap (λ r. edges_in (literals_in nodes) (untils_in nodes) spots s.level (list_in r)) l.is
+
+    letter_is : (n x : ℕ) (p : Bool) (i : ℕ) → node_at nodes n ≡ Lit x p → holds_now nodes root normal w some n i ≡ meets_literal (bits_at w i) (literal_by n x p)
+    letter_is n x p i e = holds_node nodes root normal w some n i (Lit x p) (lit_within nodes n x p e) e ∙ go p
+      where
+        bits : bits_at w (pos w i) ≡ bits_at w i
+        bits = sym (bits_pos w some i)
+        go : (p : Bool) → tree_holds w (literal x p) (pos w i) ≡ cond p (nat_eq (bit_at (bits_at w i) x) 1) (not (nat_eq (bit_at (bits_at w i) x) 1))
+        go true = ap (λ b. nat_eq (bit_at b x) 1) bits
+        go false = ap (λ b. not (nat_eq (bit_at b x) 1)) bits
+
+    to_run : (m i q : ℕ) (edges : List Edge) → q < length spots → IsRunFrom (automaton_in (walk_data nodes signals) spots) q (letters w i m) edges → CoverRun m i (get_or spots q (first_spot root)) (count edges)
+    to_run zero i q [] l r = refl
+    to_run zero i q (e ∷ es) l r = absurd r
+    to_run (suc m) i q [] l r = absurd r
+    to_run (suc m) i q (e ∷ es) l r =
+        let s : Spot = get_or spots q (first_spot root) in
+        let p = led_in (get_or spots q (first_spot root)) (q, l, refl) in
+        let c = edge_from (literals_in nodes) (untils_in nodes) spots (get_or spots q (first_spot root)).level p.list e
+                (is_contained _ e (subst (λ es. Contains es e) (edges_of q l ∙ state_edges (get_or spots q (first_spot root)) p) r.0)) in
+        let t : Taken (get_or spots q (first_spot root)) c.0 = (p.list, p.is, is_in p.list c.0 c.1) in
+        let g = goes_to (get_or spots q (first_spot root)) c.0 (q, l, refl) t in
+        let next : e.next ≡ position_or_len (same_spot (to_next (get_or spots q (first_spot root)) c.0)) spots = ap (λ (x : Edge). x.next) (sym c.2) in
+        let inside : e.next < length spots = subst (λ n. n < length spots) (sym next) g.0 in
+        let there : get_or spots e.next (first_spot root) ≡ to_next (get_or spots q (first_spot root)) c.0 = ap (λ n. get_or spots n (first_spot root)) next ∙ g.1 in
+        let held : holds (cube_in (literals_in nodes) (c.0).literals) (bits_at w i) ≡ true = subst (λ (x : Edge). holds x.cube (bits_at w i) ≡ true) (sym c.2) r.1 in
+        (c.0, t,
+         λ n x b f h. letter_is n x b i f
+             ∙ cube_meets (literals_in nodes) (c.0).literals (bits_at w i) held
+               (λ l k ml mk hl hk pl pk sg. consistent_apart nodes (c.0).literals l k (set_consistent (get_or spots q (first_spot root)).set p.list p.is c.0 (is_in p.list c.0 c.1)) ml mk hl hk pl pk sg)
+               (literal_by n x b) (literal_of_node nodes n x b (lit_within nodes n x b f) f) h,
+         count es, ap (λ (x : Edge). cond x.marked 1 0 + count es) (sym c.2), subst (λ t. CoverRun m (suc i) t (count es)) there (to_run m (suc i) e.next es inside r.2))
+
+    pub record EdgeRun (q m i k : ℕ) : Type 0 where
+      pub edges : List Edge
+      pub run : IsRunFrom (automaton_in (walk_data nodes signals) spots) q (letters w i m) edges
+      pub counted : count edges ≡ k
+
+    from_path : (m i k q : ℕ) (s t : Spot) → q < length spots → get_or spots q (first_spot root) ≡ s → Path m i s k t → EdgeRun q m i k
+    from_path zero i k q s t l e p = record { edges = []; run = tt; counted = sym p.0 }
+    from_path (suc m) i k q s t l e p =
+        let c : CoverSets = p.0 in
+        let inside : InSpots s = (q, l, e) in
+        let led = led_in s (q, l, e) in
+        let g = goes_to s p.0 (q, l, e) p.1 in
+        let edge : Edge = edge_in (literals_in nodes) (untils_in nodes) spots s.level p.0 in
+        let has_it : Is (edge_in (literals_in nodes) (untils_in nodes) spots s.level p.0) (edges_in (literals_in nodes) (untils_in nodes) spots s.level led.list) =
+            edge_to (literals_in nodes) (untils_in nodes) spots s.level led.list p.0 (in_is led.list p.0 (same_list s p.0 led p.1)) in
+        let contains : Contains (edges_at (automaton_in (walk_data nodes signals) spots) q) (edge_in (literals_in nodes) (untils_in nodes) spots s.level p.0) =
+            subst (λ es. Contains es (edge_in (literals_in nodes) (untils_in nodes) spots s.level p.0))
+            (sym (edges_of q l ∙ ap (state_in (walk_data nodes signals) spots) e ∙ state_edges s led)) (contained_is _ (edge_in (literals_in nodes) (untils_in nodes) spots s.level p.0) has_it) in
+        let held : holds (cube_in (literals_in nodes) (p.0).literals) (bits_at w i) ≡ true =
+            cube_met (literals_in nodes) (p.0).literals (bits_at w i)
+            (λ x m h.
+             let f = node_of_literal nodes x m in
+             sym (letter_is x.number x.signal x.positive i f) ∙ (p.2).literals x.number h) in
+        let r = from_path m (suc i) p.3 (position_or_len (same_spot (to_next s p.0)) spots) (to_next s p.0) t g.0 g.1 p.5 in
+        record {
+          edges = edge_in (literals_in nodes) (untils_in nodes) spots s.level p.0 ∷ r.edges;
+          run = (contains, held, r.run);
+          counted = ap (λ n. mark_of s p.0 + n) r.counted ∙ sym p.4;
+        }
+
+    root_within : root < length nodes
+    root_within = omega (arith, normal.last)
+
+    accepted_true : Accepts (automaton_in (walk_data nodes signals) spots) w → tree_holds w (formula_at nodes root) 0 ≡ true
+    accepted_true acc =
+        let a = acc (need (suc root)) in
+        let r : IsRunFrom (automaton_in (walk_data nodes signals) spots) 0 (letters w 0 a.0) a.1 = subst (λ xs. IsRunFrom (automaton_in (walk_data nodes signals) spots) 0 xs a.1) (prefix_letters w a.0) a.2 in
+        begins a.0 (count a.1) (subst (λ s. CoverRun a.0 0 s (count a.1)) (first_here (first_spot root)) (to_run a.0 0 0 a.1 some_spots r)) a.3
+      where
+        begins : (m k : ℕ) → CoverRun m 0 (first_spot root) k → need (suc root) < k → tree_holds w (formula_at nodes root) 0 ≡ true
+        begins zero k r l = absurd (omega (arith, r))
+        begins (suc m) k r l =
+            sound (suc root) root (omega arith) root_within m 0 k (first_spot root) r (set_meets nodes root normal w some (2 ^ root) r.1.0 root r.1.1 (has_self root) root_within r.0 r.1.2) (omega arith)
+
+    true_accepted : tree_holds w (formula_at nodes root) 0 ≡ true → Accepts (automaton_in (walk_data nodes signals) spots) w
+    true_accepted h b =
+        let p = reach_many (suc b) (first_spot root) (0, some_spots, first_here (first_spot root)) (λ n k. subst (λ j. holds_now nodes root normal w some j 0 ≡ true) (sym (has_only root n k)) h) in
+        let r = from_path p.steps 0 p.marks 0 (first_spot root) p.end some_spots (first_here (first_spot root)) p.path in
+        (p.steps, r.edges, subst (λ xs. IsRunFrom (automaton_in (walk_data nodes signals) spots) 0 xs r.edges) (sym (prefix_letters w p.steps)) r.run, omega (arith, r.counted, p.many))
+
+pub accepts_by_truth : AcceptsByTruth
+accepts_by_truth nodes root signals spots normal fnd w some = (accepted_true nodes root normal w some signals spots fnd, true_accepted nodes root normal w some signals spots fnd)
