@@ -68,6 +68,7 @@ with_met cube l x h m = go l.positive refl m
   where
     whole : bit_and x (bit_or cube.care (2 ^ l.signal)) ≡ bit_or cube.want (bit_at x l.signal * 2 ^ l.signal)
     whole = and_distrib x cube.care (2 ^ l.signal) ∙ ap (λ a. bit_or a (bit_and x (2 ^ l.signal))) h ∙ ap (bit_or cube.want) (and_pow x l.signal)
+
     go : (b : Bool) → l.positive ≡ b → cond b (nat_eq (bit_at x l.signal) 1) (not (nat_eq (bit_at x l.signal) 1)) ≡ true
         → bit_and x (bit_or cube.care (2 ^ l.signal)) ≡ cond l.positive (bit_or cube.want (2 ^ l.signal)) cube.want
     go true e k =
@@ -116,7 +117,7 @@ cares set [] cube l m t = absurd m
 cares set (k ∷ ks) cube l (inl e) t =
     care_keeps set l.signal ks (step_on set cube k)
     (subst (λ (j : Literal). bit_at (step_on set cube j).care l.signal ≡ 1) (sym e)
-        (ap (λ b. bit_at (cond b (with_literal cube l) cube).care l.signal) t ∙ (let u = bit_at_or cube.care (2 ^ l.signal) l.signal in let v = bit_at-pow_same l.signal in let y = bit_at-lt cube.care l.signal in omega arith)))
+    (ap (λ b. bit_at (cond b (with_literal cube l) cube).care l.signal) t ∙ (let u = bit_at_or cube.care (2 ^ l.signal) l.signal in let v = bit_at-pow_same l.signal in let y = bit_at-lt cube.care l.signal in omega arith)))
 cares set (k ∷ ks) cube l (inr m) t = cares set ks (step_on set cube k) l m t
 
 wants : (set : ℕ) (literals : List Literal) (cube : Cube) (l : Literal) → Is l literals → has set l.number ≡ true → l.positive ≡ true → bit_at (fold (step_on set) cube literals).want l.signal ≡ 1
@@ -124,9 +125,9 @@ wants set [] cube l m t p = absurd m
 wants set (k ∷ ks) cube l (inl e) t p =
     want_keeps set l.signal ks (step_on set cube k)
     (subst (λ (j : Literal). bit_at (step_on set cube j).want l.signal ≡ 1) (sym e)
-        (ap (λ b. bit_at (cond b (with_literal cube l) cube).want l.signal) t
-         ∙ ap (λ b. bit_at (cond b (bit_or cube.want (2 ^ l.signal)) cube.want) l.signal) p
-         ∙ (let u = bit_at_or cube.want (2 ^ l.signal) l.signal in let v = bit_at-pow_same l.signal in let y = bit_at-lt cube.want l.signal in omega arith)))
+    (ap (λ b. bit_at (cond b (with_literal cube l) cube).want l.signal) t
+    ∙ ap (λ b. bit_at (cond b (bit_or cube.want (2 ^ l.signal)) cube.want) l.signal) p
+    ∙ (let u = bit_at_or cube.want (2 ^ l.signal) l.signal in let v = bit_at-pow_same l.signal in let y = bit_at-lt cube.want l.signal in omega arith)))
 wants set (k ∷ ks) cube l (inr m) t p = wants set ks (step_on set cube k) l m t p
 
 -- a wanted signal is that of a literal
@@ -142,6 +143,7 @@ wanted set s (l ∷ ls) cube h = later (wanted set s ls (step_on set cube l) h)
     here true e true f false g k = let u = bit_at_or cube.want (2 ^ l.signal) s in let v = bit_at-pow_other l.signal s (eqb-false s l.signal g) in inl (omega arith)
     here true e false f t g k = inl k
     here false e c f t g k = inl k
+
     later : (bit_at (step_on set cube l).want s ≡ 1) ⊎ ((k : Literal) × Is k ls × (has set k.number ≡ true) × (k.positive ≡ true) × (k.signal ≡ s))
         → (bit_at cube.want s ≡ 1) ⊎ ((k : Literal) × Is k (l ∷ ls) × (has set k.number ≡ true) × (k.positive ≡ true) × (k.signal ≡ s))
     later (inl k) = here (has set l.number) refl l.positive refl (eqb s l.signal) refl k
@@ -155,8 +157,10 @@ cube_meets literals set x h apart l m t = go l.positive refl
   where
     start : Cube
     start = record { care = 0; want = 0 }
+
     same : bit_and x (cube_in literals set).care ≡ (cube_in literals set).want
     same = eqb-true _ _ h
+
     bits : bit_at x l.signal ≡ bit_at (cube_in literals set).want l.signal
     bits =
         let a : bit_at (cube_in literals set).care l.signal ≡ 1 = cares set literals (record { care = 0; want = 0 }) l m t in
@@ -164,12 +168,14 @@ cube_meets literals set x h apart l m t = go l.positive refl
         let c : bit_at (bit_and x (cube_in literals set).care) l.signal ≡ bit_at (cube_in literals set).want l.signal = ap (λ y. bit_at y l.signal) same in
         let d = bit_at-lt x l.signal in
         omega arith
+
     never : l.positive ≡ false → bit_at (cube_in literals set).want l.signal ≡ 1 → ⊥
     never e k = clash (wanted set l.signal literals (record { care = 0; want = 0 }) k)
       where
         clash : (bit_at 0 l.signal ≡ 1) ⊎ ((j : Literal) × Is j literals × (has set j.number ≡ true) × (j.positive ≡ true) × (j.signal ≡ l.signal)) → ⊥
         clash (inl z) = let y = bit_at-zero l.signal in omega arith
         clash (inr r) = apart r.0 l r.1 m r.2 t r.3 e r.4
+
     go : (b : Bool) → l.positive ≡ b → cond l.positive (nat_eq (bit_at x l.signal) 1) (not (nat_eq (bit_at x l.signal) 1)) ≡ true
     go true e =
         let a : bit_at (cube_in literals set).want l.signal ≡ 1 = wants set literals (record { care = 0; want = 0 }) l m t e in

@@ -118,6 +118,7 @@ all_from es (f ∷ fs) x m = go (all_from (insert_key same_edge es f) fs x m)
     first : Is x es ⊎ (f ≡ x) → Is x es ⊎ Is x (f ∷ fs)
     first (inl k) = inl k
     first (inr k) = inr (inl k)
+
     go : Is x (insert_key same_edge es f) ⊎ Is x fs → Is x es ⊎ Is x (f ∷ fs)
     go (inl k) = first (put_from es f x k)
     go (inr k) = inr (inr k)
@@ -185,6 +186,7 @@ walk_found walker (suc n) at old spots e few h = go (slice_get old at) refl h (�
         let p : length old ≤ at = none_past old at f in
         let j : length old ≡ length spots = ap length i in
         record { more = []; is = sym i ∙ sym (append-nil old); led = λ k d l m. absurd (omega arith) }
+
     goes : (s : Spot) → slice_get old at ≡ Some s → (list : List CoverSets) → covers_in walker.table s.set ≡ Some list → Extends walker (at + 1) (grown walker.untils s.level list old) spots → Extends walker at old spots
     goes s f list i r =
         let b = keys_behind old (map (target walker.untils s.level) list) in
@@ -192,9 +194,9 @@ walk_found walker (suc n) at old spots e few h = go (slice_get old at) refl h (�
         let within : at < length old = some_within old at s f in
         let long : length spots ≡ length old + length (b.0 ++ r.more) = ap length whole ∙ length-append old (b.0 ++ r.more) in
         let leading : leads walker.untils spots s.level list ≡ true =
-            subst (λ xs. leads walker.untils xs s.level list ≡ true) (sym r.is) (leads_more walker.untils (grown walker.untils s.level list old) r.more s.level list (leads_grown walker.untils old s.level list)) in
+        subst (λ xs. leads walker.untils xs s.level list ≡ true) (sym r.is) (leads_more walker.untils (grown walker.untils s.level list old) r.more s.level list (leads_grown walker.untils old s.level list)) in
         let here : (d : Spot) → get_or spots at d ≡ s =
-            λ d. get_or_default spots at d s (omega arith) ∙ ap (λ xs. get_or xs at s) whole ∙ get_or_append_left old (b.0 ++ r.more) s at within ∙ some_at old at s f in
+        λ d. get_or_default spots at d s (omega arith) ∙ ap (λ xs. get_or xs at s) whole ∙ get_or_append_left old (b.0 ++ r.more) s at within ∙ some_at old at s f in
         record {
           more = b.0 ++ r.more;
           is = whole;
@@ -206,6 +208,7 @@ walk_found walker (suc n) at old spots e few h = go (slice_get old at) refl h (�
             let q : get_or spots k d ≡ s = ap (λ j. get_or spots j d) (eqb-true k at t) ∙ here d in
             subst (Led walker spots) (sym q) (record { list = list; is = i; leads_in = leading })
         choose k d l m false t here leading = let ne = eqb-false k at t in r.led k d (omega arith) m
+
     row : (s : Spot) → slice_get old at ≡ Some s → (x : Row) → covers_in walker.table s.set ≡ x → behind (walk walker n (at + 1)) walker s.level old x ≡ found spots
         → ((next : List Spot) → length next ≤ 4096 → walk walker n (at + 1) next ≡ found spots → Extends walker (at + 1) next spots) → Extends walker at old spots
     row s f None i q rec = absurd cc
@@ -214,6 +217,7 @@ walk_found walker (suc n) at old spots e few h = go (slice_get old at) refl h (�
         limit : (b : Bool) → nat_le (length (grown walker.untils s.level list old)) 4096 ≡ b → cond b (walk walker n (at + 1) (grown walker.untils s.level list old)) too_many ≡ found spots → Extends walker at old spots
         limit true t q = goes s f list i (rec (grown walker.untils s.level list old) (leb-true (length (grown walker.untils s.level list old)) 4096 t) q)
         limit false t q = absurd cc
+
     go : (o : Option Spot) → slice_get old at ≡ o → from_state (walk walker n (at + 1)) walker old o ≡ found spots
         → ((next : List Spot) → length next ≤ 4096 → walk walker n (at + 1) next ≡ found spots → Extends walker (at + 1) next spots) → Extends walker at old spots
     go None f q rec = ends (found_is old spots q) f

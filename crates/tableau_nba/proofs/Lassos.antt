@@ -87,7 +87,7 @@ module _ (w : LassoData) (some : 0 < length w.cycle) where
         let first : f (pos w i) ≡ true = subst (λ m. f (pos w m) ≡ true) e (a 0 (omega arith)) in
         let s : i + suc k ≡ suc i + k = omega arith in
         let rest : until_within w f g n (pos w (suc i)) ≡ true =
-            until_from n k (suc i) (omega arith) (subst (λ m. g (pos w m) ≡ true) s h) (λ j m. let t : i + suc j ≡ suc i + j = omega arith in subst (λ x. f (pos w x) ≡ true) t (a (suc j) (omega arith))) in
+        until_from n k (suc i) (omega arith) (subst (λ m. g (pos w m) ≡ true) s h) (λ j m. let t : i + suc j ≡ suc i + j = omega arith in subst (λ x. f (pos w x) ≡ true) t (a (suc j) (omega arith))) in
         or_second (g (pos w i)) (f (pos w i) && until_within w f g n (pos w (suc i))) (and_from _ _ first rest)
 
     pub until_to : (n i : ℕ) → until_within w f g n (pos w i) ≡ true → (k : ℕ) × (k < n) × (g (pos w (i + k)) ≡ true) × ((j : ℕ) → j < k → f (pos w (i + j)) ≡ true)
@@ -96,11 +96,14 @@ module _ (w : LassoData) (some : 0 < length w.cycle) where
       where
         zero_more : i + 0 ≡ i
         zero_more = omega arith
+
         one_more : (k : ℕ) → suc i + k ≡ i + suc k
         one_more k = omega arith
+
         firsts : f (pos w i) ≡ true → (k : ℕ) → ((j : ℕ) → j < k → f (pos w (suc i + j)) ≡ true) → (j : ℕ) → j < suc k → f (pos w (i + j)) ≡ true
         firsts e k a zero l = subst (λ m. f (pos w m) ≡ true) (sym zero_more) e
         firsts e k a (suc j) l = subst (λ m. f (pos w m) ≡ true) (one_more j) (a j (omega arith))
+
         go : (g (pos w i) ≡ true) ⊎ ((f (pos w i) && until_within w f g n (pos w (suc i))) ≡ true)
             → (until_within w f g n (pos w (suc i)) ≡ true → (k : ℕ) × (k < n) × (g (pos w (suc i + k)) ≡ true) × ((j : ℕ) → j < k → f (pos w (suc i + j)) ≡ true))
             → (k : ℕ) × (k < suc n) × (g (pos w (i + k)) ≡ true) × ((j : ℕ) → j < k → f (pos w (i + j)) ≡ true)
@@ -120,17 +123,21 @@ module _ (w : LassoData) (some : 0 < length w.cycle) where
       where
         zero_more : i + 0 ≡ i
         zero_more = omega arith
+
         one_more : (k : ℕ) → suc i + k ≡ i + suc k
         one_more k = omega arith
+
         all : (j : ℕ) → (k : ℕ) → j < suc k → ((m : ℕ) → m < k → f (pos w (suc i + m)) ≡ true) → f (pos w (i + j)) ≡ true
         all zero k l a = subst (λ m. f (pos w m) ≡ true) (sym zero_more) h
         all (suc j) k l a = subst (λ m. f (pos w m) ≡ true) (one_more j) (a j (omega arith))
+
         -- a full turn is left out
         back : (k : ℕ) → suc k ≡ size w → pos w (suc i + k) ≡ pos w (i + length w.stem)
         back k e =
             let a : suc i + k ≡ size w + i = omega arith in
             let b : length w.stem + i ≡ i + length w.stem = omega arith in
             ap (pos w) a ∙ pos_later i ∙ ap (pos w) b
+
         go : (k : ℕ) → k < size w → g (pos w (suc i + k)) ≡ true → ((j : ℕ) → j < suc k → f (pos w (i + j)) ≡ true) → (t : Bool) → nat_lt (suc k) (size w) ≡ t → until_at w f g (pos w i) ≡ true
         go k l e a true t = until_from (size w) (suc k) i (ltb-true (suc k) (size w) t) (subst (λ m. g (pos w m) ≡ true) (one_more k) e) a
         go k l e a false t =
@@ -144,8 +151,10 @@ module _ (w : LassoData) (some : 0 < length w.cycle) where
       where
         zero_more : i + 0 ≡ i
         zero_more = omega arith
+
         one_more : (k : ℕ) → i + suc k ≡ suc i + k
         one_more k = omega arith
+
         go : (k : ℕ) → k < size w → g (pos w (i + k)) ≡ true → ((j : ℕ) → j < k → f (pos w (i + j)) ≡ true) → (f (pos w i) ≡ true) × (until_at w f g (pos w (suc i)) ≡ true)
         go zero l e a = absurd (both_ways _ n (subst (λ m. g (pos w m) ≡ true) zero_more e))
         go (suc k) l e a = (
@@ -169,9 +178,11 @@ module _ (w : LassoData) (some : 0 < length w.cycle) where
     where
       u : until_at w (λ x. not (f x)) (λ x. not (g x)) (pos w i) ≡ false
       u = not-true _ (sym (release_not f g (size w) (pos w i)) ∙ h)
+
       right : (b : Bool) → g (pos w i) ≡ b → b ≡ true
       right true e = refl
       right false e = absurd (both_ways _ u (until_first (λ x. not (f x)) (λ x. not (g x)) i (ap not e)))
+
       left : (b : Bool) → f (pos w i) ≡ b → (c : Bool) → release_at w f g (pos w (suc i)) ≡ c → (b ≡ true) ⊎ (c ≡ true)
       left true e c k = inl refl
       left false e true k = inr refl

@@ -70,20 +70,20 @@ has_only n m h = go (eqb m n) refl
 or_part_left : (a b c : ℕ) → is_part (bit_or a b) c ≡ true → is_part a c ≡ true
 or_part_left a b c h =
     is_is_part a c (same_from_bits _ _ (λ i.
-                     let e : bit_at (bit_and (bit_or a b) c) i ≡ bit_at (bit_or a b) i = ap (λ x. bit_at x i) (part_is (bit_or a b) c h) in
-                     let f = bit_at_and (bit_or a b) c i in
-                     let g = bit_at_or a b i in
-                     let k = bit_at_and a c i in
-                     omega arith))
+    let e : bit_at (bit_and (bit_or a b) c) i ≡ bit_at (bit_or a b) i = ap (λ x. bit_at x i) (part_is (bit_or a b) c h) in
+    let f = bit_at_and (bit_or a b) c i in
+    let g = bit_at_or a b i in
+    let k = bit_at_and a c i in
+    omega arith))
 
 or_part_right : (a b c : ℕ) → is_part (bit_or a b) c ≡ true → is_part b c ≡ true
 or_part_right a b c h =
     is_is_part b c (same_from_bits _ _ (λ i.
-                     let e : bit_at (bit_and (bit_or a b) c) i ≡ bit_at (bit_or a b) i = ap (λ x. bit_at x i) (part_is (bit_or a b) c h) in
-                     let f = bit_at_and (bit_or a b) c i in
-                     let g = bit_at_or a b i in
-                     let k = bit_at_and b c i in
-                     omega arith))
+    let e : bit_at (bit_and (bit_or a b) c) i ≡ bit_at (bit_or a b) i = ap (λ x. bit_at x i) (part_is (bit_or a b) c h) in
+    let f = bit_at_and (bit_or a b) c i in
+    let g = bit_at_or a b i in
+    let k = bit_at_and b c i in
+    omega arith))
 
 left_part : (x y c : CoverSets) → part_of (both x y) c ≡ true → part_of x c ≡ true
 left_part x y c h =
@@ -314,7 +314,6 @@ module _ (nodes : List Node) (root : ℕ) (normal : IsNormal nodes root) (w : La
       let t = two_some products list row r.0 r.1 in
       (t.0, t.1, t.2, t.3, ap (reduced (opposites nodes)) t.4 ∙ r.2)
 
-
   -- each cover of the end contains one of the start
   members_extend : (set k : ℕ) (rest : List Row) (start : Row) (end : List CoverSets) → with_members (opposites nodes) set k rest start ≡ Some end
       → (starts : List CoverSets) × (start ≡ Some starts) × ((c : CoverSets) → IsIn c end → (x : CoverSets) × IsIn x starts × (part_of x c ≡ true))
@@ -323,16 +322,19 @@ module _ (nodes : List Node) (root : ℕ) (normal : IsNormal nodes root) (w : La
     where
       go : (b : Bool) → with_members (opposites nodes) set (k + 1) rest (cond b (times (opposites nodes) start row) start) ≡ Some end
           → ((s : Row) → with_members (opposites nodes) set (k + 1) rest s ≡ Some end
-             → (starts : List CoverSets) × (s ≡ Some starts) × ((c : CoverSets) → IsIn c end → (x : CoverSets) × IsIn x starts × (part_of x c ≡ true)))
+          → (starts : List CoverSets) × (s ≡ Some starts) × ((c : CoverSets) → IsIn c end → (x : CoverSets) × IsIn x starts × (part_of x c ≡ true)))
           → (starts : List CoverSets) × (start ≡ Some starts) × ((c : CoverSets) → IsIn c end → (x : CoverSets) × IsIn x starts × (part_of x c ≡ true))
       go false q rec = rec start q
       go true q rec =
           let r = rec (times (opposites nodes) start row) q in
-          let t = times_some start row r.0 r.1 in
-          (t.0, t.2, λ c m.
-           let x = r.2 c m in
-           let y = product_from t.0 t.1 x.0 (reduced_in (opposites nodes) (products t.0 t.1) x.0 (subst (λ xs. IsIn x.0 xs) (sym t.4) x.1)).0 in
-           (y.0, y.2, part_trans y.0 x.0 c (left_part y.0 y.1 x.0 (subst (λ z. part_of z x.0 ≡ true) (sym y.4) (part_self x.0))) x.2))
+          let t = times_some start row r.0 r.1 in (
+            t.0,
+            t.2,
+            λ c m.
+                let x = r.2 c m in
+                let y = product_from t.0 t.1 x.0 (reduced_in (opposites nodes) (products t.0 t.1) x.0 (subst (λ xs. IsIn x.0 xs) (sym t.4) x.1)).0 in
+                (y.0, y.2, part_trans y.0 x.0 c (left_part y.0 y.1 x.0 (subst (λ z. part_of z x.0 ≡ true) (sym y.4) (part_self x.0))) x.2),
+          )
 
   members_meet : (set k : ℕ) (rest : List Row) (start : Row) (end : List CoverSets) (n : ℕ) → ((j : ℕ) → j < length rest → get_or rest j None ≡ row_at (rows_of nodes) (k + j))
       → k ≤ n → n < k + length rest → has set n ≡ true → with_members (opposites nodes) set k rest start ≡ Some end → (c : CoverSets) → IsIn c end → Meets c n
@@ -343,6 +345,7 @@ module _ (nodes : List Node) (root : ℕ) (normal : IsNormal nodes root) (w : La
     where
       zero_more : k + 0 ≡ k
       zero_more = omega arith
+
       own : n ≡ k → with_members (opposites nodes) set (k + 1) rest (times (opposites nodes) start row) ≡ Some end → Meets c n
       own e q =
           let r = members_extend set (k + 1) rest (times (opposites nodes) start row) end q in
@@ -351,6 +354,7 @@ module _ (nodes : List Node) (root : ℕ) (normal : IsNormal nodes root) (w : La
           let y = product_from v.0 v.1 x.0 (reduced_in (opposites nodes) (products v.0 v.1) x.0 (subst (λ xs. IsIn x.0 xs) (sym v.4) x.1)).0 in
           let here : row ≡ row_at (rows_of nodes) n = rows 0 (omega arith) ∙ ap (row_at (rows_of nodes)) (zero_more ∙ sym e) in
           (v.1, sym here ∙ v.3, y.1, y.3, part_trans y.1 x.0 c (right_part y.0 y.1 x.0 (subst (λ z. part_of z x.0 ≡ true) (sym y.4) (part_self x.0))) x.2)
+
       go : (b : Bool) → eqb n k ≡ b → ((s : Row) → k + 1 ≤ n → with_members (opposites nodes) set (k + 1) rest s ≡ Some end → Meets c n) → Meets c n
       go true e rec =
           let i : n ≡ k = eqb-true n k e in
@@ -383,9 +387,11 @@ module _ (nodes : List Node) (root : ℕ) (normal : IsNormal nodes root) (w : La
       lits : (n : ℕ) → (has x.literals n ≡ true) ⊎ (has y.literals n ≡ true) → holds_now n i ≡ true
       lits n (inl h) = p.literals n h
       lits n (inr h) = q.literals n h
+
       nexts : (n : ℕ) → (has x.next n ≡ true) ⊎ (has y.next n ≡ true) → holds_now n (suc i) ≡ true
       nexts n (inl h) = p.next n h
       nexts n (inr h) = q.next n h
+
       posts : (n f g : ℕ) → node_at nodes n ≡ Until f g → (has x.postponed n ≡ true) ⊎ (has y.postponed n ≡ true) → (holds_now g i ≡ false) × (holds_now n (suc i) ≡ true)
       posts n f g e (inl h) = p.postponed n h f g e
       posts n f g e (inr h) = q.postponed n h f g e
@@ -435,6 +441,7 @@ module _ (nodes : List Node) (root : ℕ) (normal : IsNormal nodes root) (w : La
           let a : signal_at w r.0 (pos w i) ≡ true = sym (holds_node x.0 i (Lit r.0 true) (lit_within nodes x.0 r.0 true r.1) r.1) ∙ p.literals x.0 q.0 in
           let b : not (signal_at w r.0 (pos w i)) ≡ true = sym (holds_node x.1 i (Lit r.0 false) (lit_within nodes x.1 r.0 false r.2) r.2) ∙ p.literals x.1 q.1 in
           both_ways (signal_at w r.0 (pos w i)) (not-true _ b) a
+
       go : (b : Bool) → list_any (λ q. has c.literals q.0 && has c.literals q.1) (opposites nodes) ≡ b → not b ≡ true
       go false e = refl
       go true e = let r = any_pair (λ q. has c.literals q.0 && has c.literals q.1) (opposites nodes) e (IsContrary nodes) (opposites_contrary nodes) in absurd (never r.0 r.1 r.2)
@@ -485,6 +492,7 @@ module _ (nodes : List Node) (root : ℕ) (normal : IsNormal nodes root) (w : La
     where
       one : (d : CoverSets) → IsIn d (only 0 (2 ^ n) (2 ^ n) ∷ []) → Narrow d
       one d k = subst Narrow (only_in _ d k) (narrow_only 0 (2 ^ n) (2 ^ n) none_narrow (pow_narrow n l) (pow_narrow n l))
+
       either : (xs ys : List CoverSets) → ((d : CoverSets) → IsIn d xs → Narrow d) → ((d : CoverSets) → IsIn d ys → Narrow d) → IsIn d ys ⊎ IsIn d (products xs (only 0 (2 ^ n) (2 ^ n) ∷ [])) → Narrow d
       either xs ys a b (inl k) = b d k
       either xs ys a b (inr k) = narrow_product xs (only 0 (2 ^ n) (2 ^ n) ∷ []) a one d k
@@ -539,9 +547,11 @@ module _ (nodes : List Node) (root : ℕ) (normal : IsNormal nodes root) (w : La
       go xs ys a c s false p =
           let u = until_waits w some (λ q. tree_holds w (formula_at nodes f) q) (λ q. tree_holds w (formula_at nodes g) q) i (sym (holds_node n i (Until f g) l e) ∙ t) p in
           let x = rec f b.0 u.0 xs a in
-          let o : CoverSets = only 0 (2 ^ n) (2 ^ n) in
-          (both x.0 o, subst (λ zs. IsIn (both x.0 o) zs) s (in_right ys (products xs (o ∷ [])) (both x.0 o) (product_to xs (o ∷ []) x.0 o x.1 (inl refl))),
-           good_both x.0 o i x.2 (good_later n i f g e p (holds_node n (suc i) (Until f g) l e ∙ u.1)))
+          let o : CoverSets = only 0 (2 ^ n) (2 ^ n) in (
+            both x.0 o,
+            subst (λ zs. IsIn (both x.0 o) zs) s (in_right ys (products xs (o ∷ [])) (both x.0 o) (product_to xs (o ∷ []) x.0 o x.1 (inl refl))),
+            good_both x.0 o i x.2 (good_later n i f g e p (holds_node n (suc i) (Until f g) l e ∙ u.1)),
+          )
   raw_good n (Release f g) i l e b t rec raws h =
       let r = two_some (release_raw n) (row_at (rows_of nodes) f) (row_at (rows_of nodes) g) raws h in
       let u = release_open w some (λ q. tree_holds w (formula_at nodes f) q) (λ q. tree_holds w (formula_at nodes g) q) i (sym (holds_node n i (Release f g) l e) ∙ t) in
@@ -554,9 +564,11 @@ module _ (nodes : List Node) (root : ℕ) (normal : IsNormal nodes root) (w : La
           let x = rec f b.0 p xs a in
           (both y x.0, subst (λ zs. IsIn (both y x.0) zs) s (product_to ys (xs ++ only 0 (2 ^ n) 0 ∷ []) y x.0 m (in_left xs (only 0 (2 ^ n) 0 ∷ []) x.0 x.1)), good_both y x.0 i q x.2)
       go xs ys a s y m q (inr p) =
-          let o : CoverSets = only 0 (2 ^ n) 0 in
-          (both y o, subst (λ zs. IsIn (both y o) zs) s (product_to ys (xs ++ o ∷ []) y o m (in_right xs (o ∷ []) o (inl refl))),
-           good_both y o i q (good_next n i (holds_node n (suc i) (Release f g) l e ∙ p)))
+          let o : CoverSets = only 0 (2 ^ n) 0 in (
+            both y o,
+            subst (λ zs. IsIn (both y o) zs) s (product_to ys (xs ++ o ∷ []) y o m (in_right xs (o ∷ []) o (inl refl))),
+            good_both y o i q (good_next n i (holds_node n (suc i) (Release f g) l e ∙ p)),
+          )
 
   -- a true raw cover has a true reduced one inside it
   good_reduced : (raws : List CoverSets) (d : CoverSets) (i : ℕ) → All Narrow raws → IsIn d raws → Good d i → (e : CoverSets) × IsIn e (reduced (opposites nodes) raws) × Good e i
@@ -586,6 +598,7 @@ module _ (nodes : List Node) (root : ℕ) (normal : IsNormal nodes root) (w : La
     where
       zero_more : k + 0 ≡ k
       zero_more = omega arith
+
       go : (b : Bool) → has set k ≡ b → with_members (opposites nodes) set (k + 1) rest (cond b (times (opposites nodes) (Some starts) row) (Some starts)) ≡ Some end
           → ((ss : List CoverSets) → All Narrow ss → (y : CoverSets) → IsIn y ss → Good y i → with_members (opposites nodes) set (k + 1) rest (Some ss) ≡ Some end → (c : CoverSets) × IsIn c end × Good c i)
           → (c : CoverSets) × IsIn c end × Good c i

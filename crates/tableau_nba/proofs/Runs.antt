@@ -23,7 +23,7 @@ use Rattle.cover_sets.proofs.FormulaRows.{consistent_none}
 use Rattle.cover_sets.proofs.Members.{IsIn}
 use Rattle.cover_sets.proofs.ReducedLists.{reduced_in}
 use Rattle.tableau_nba.specs.declared.cubes.Literal.{Literal}
-use Rattle.tableau_nba.specs.Acceptance.{AcceptsByTruth}
+use Rattle.tableau_nba.specs.Acceptance.{AcceptsByTruth, AcceptsTruthOf}
 use Rattle.tableau_nba.specs.Tableau.{WalkData}
 use Rattle.tableau_nba.specs.Walks.{Spot, all_spots, automaton_in, cube_in, edge_in, edges_in, first_spot, found, is_marked, is_until, list_in, literals_in, met, risen, same_spot, state_in, target, untils_in, walk_data}
 use Rattle.tableau_nba.proofs.CubeTruth.{cube_meets, cube_met, literal_by, literal_of_node, meets_literal, node_of_literal}
@@ -109,7 +109,7 @@ risen_stops : (us : List ℕ) (level j n : ℕ) (c : CoverSets) → level ≤ j 
 risen_stops us level j n c l k e h =
     let s : level + (j - level) ≡ j = omega arith in
     let r : met (drop level us) c.postponed ≤ j - level =
-        met_stops (drop level us) (j - level) n c.postponed (omega (arith, length-drop level us)) (get_or-drop level us (j - level) n ∙ ap (λ i. get_or us i n) s ∙ e) h in
+    met_stops (drop level us) (j - level) n c.postponed (omega (arith, length-drop level us)) (get_or-drop level us (j - level) n ∙ ap (λ i. get_or us i n) s ∙ e) h in
     omega arith
 
 -- where the level stops an until is put off
@@ -139,6 +139,7 @@ any_flat p f s (suc m) n l k h = go (eqb n s) refl (λ a b. any_flat p f (s + 1)
         here : (b : Bool) → (b || list_any p xs) ≡ true → (list_any p xs ≡ true → list_any p (xs ++ ys) ≡ true) → (b || list_any p (xs ++ ys)) ≡ true
         here true t rec = refl
         here false t rec = rec t
+
     behind : (xs ys : List (ℕ × ℕ)) → list_any p ys ≡ true → list_any p (xs ++ ys) ≡ true
     behind [] ys t = t
     behind (x ∷ xs) ys t = here (p x) (behind xs ys t)
@@ -146,6 +147,7 @@ any_flat p f s (suc m) n l k h = go (eqb n s) refl (λ a b. any_flat p f (s + 1)
         here : (b : Bool) → list_any p (xs ++ ys) ≡ true → (b || list_any p (xs ++ ys)) ≡ true
         here true t = refl
         here false t = t
+
     go : (b : Bool) → eqb n s ≡ b → (s + 1 ≤ n → n < s + 1 + m → list_any p (flat_map f (range_with_len (s + 1) m)) ≡ true) → list_any p (f s ++ flat_map f (range_with_len (s + 1) m)) ≡ true
     go true e rec = front (f s) _ (subst (λ j. list_any p (f j) ≡ true) (eqb-true n s e) h)
     go false e rec = let ne = eqb-false n s e in behind (f s) _ (rec (omega arith) (omega arith))
@@ -167,9 +169,9 @@ consistent_apart nodes set l k c m n a b p q s =
     let f : node_at nodes k.number ≡ Lit l.signal false = node_of_literal nodes k n ∙ ap (Lit k.signal) q ∙ ap (λ x. Lit x false) (sym s) in
     let g : contrary (node_at nodes l.number) (node_at nodes k.number) ≡ true = ap (λ x. contrary x (node_at nodes k.number)) e ∙ ap (contrary (Lit l.signal true)) f ∙ eq-eqb l.signal l.signal refl in
     let t : list_any (λ r. has set r.0 && has set r.1) (opposites nodes) ≡ true =
-        any_flat (λ r. has set r.0 && has set r.1) (λ n. pairs_with n (negations nodes (node_at nodes n))) 0 (length nodes) l.number (omega arith) (omega (arith, lit_within nodes l.number l.signal true e))
-        (any_paired (λ r. has set r.0 && has set r.1) l.number k.number (negations nodes (node_at nodes l.number))
-             (filtered_is (λ m. contrary (node_at nodes l.number) (node_at nodes m)) 0 (length nodes) k.number (omega arith) (omega (arith, lit_within nodes k.number l.signal false f)) g) (and_from _ _ a b)) in
+    any_flat (λ r. has set r.0 && has set r.1) (λ n. pairs_with n (negations nodes (node_at nodes n))) 0 (length nodes) l.number (omega arith) (omega (arith, lit_within nodes l.number l.signal true e))
+    (any_paired (λ r. has set r.0 && has set r.1) l.number k.number (negations nodes (node_at nodes l.number))
+    (filtered_is (λ m. contrary (node_at nodes l.number) (node_at nodes m)) 0 (length nodes) k.number (omega arith) (omega (arith, lit_within nodes k.number l.signal false f)) g) (and_from _ _ a b)) in
     both_ways _ (not-true _ c) t
 
 module _ (nodes : List Node) (root : ℕ) (normal : IsNormal nodes root) (w : LassoData) (some : 0 < length w.cycle) where
@@ -182,9 +184,10 @@ module _ (nodes : List Node) (root : ℕ) (normal : IsNormal nodes root) (w : La
       timed ss e c m =
           let t = times_some nodes root normal w some start row ss e in
           (reduced_in (opposites nodes) (products t.0 t.1) c (subst (λ xs. IsIn c xs) (sym t.4) m)).1
+
       go : (b : Bool) → with_members (opposites nodes) set (k + 1) rest (cond b (times (opposites nodes) start row) start) ≡ Some end
           → ((s : Row) → ((ss : List CoverSets) → s ≡ Some ss → (c : CoverSets) → IsIn c ss → consistent (opposites nodes) c.literals ≡ true) → with_members (opposites nodes) set (k + 1) rest s ≡ Some end
-             → consistent (opposites nodes) c.literals ≡ true) → consistent (opposites nodes) c.literals ≡ true
+          → consistent (opposites nodes) c.literals ≡ true) → consistent (opposites nodes) c.literals ≡ true
       go true q rec = rec (times (opposites nodes) start row) timed q
       go false q rec = rec start p q
 
@@ -195,6 +198,7 @@ module _ (nodes : List Node) (root : ℕ) (normal : IsNormal nodes root) (w : La
       alone : (c : CoverSets) → IsIn c (no_demand ∷ []) → consistent (opposites nodes) c.literals ≡ true
       alone c (inl e) = subst (λ (x : CoverSets). consistent (opposites nodes) x.literals ≡ true) e (consistent_none (opposites nodes))
       alone c (inr m) = absurd m
+
       first : (ss : List CoverSets) → Some (no_demand ∷ []) ≡ Some ss → (c : CoverSets) → IsIn c ss → consistent (opposites nodes) c.literals ≡ true
       first ss e c m = let i : no_demand ∷ [] ≡ ss = cc in alone c (subst (λ xs. IsIn c xs) (sym i) m)
 
@@ -249,6 +253,7 @@ module _ (nodes : List Node) (root : ℕ) (normal : IsNormal nodes root) (w : La
       enough : ((s.level ≤ j) × (need b ≤ k)) ⊎ (need b + 1 ≤ k) → need b ≤ k
       enough (inl p) = p.1
       enough (inr p) = omega arith
+
       none : PutsOff nodes root normal w some r.0 n f → ((s.level ≤ j) × (need b ≤ k)) ⊎ (need b + 1 ≤ k) → ⊥
       none p (inl x) =
           let a = risen_stops (untils_in nodes) s.level j n r.0 x.0 lj ej p.postponed in
@@ -256,6 +261,7 @@ module _ (nodes : List Node) (root : ℕ) (normal : IsNormal nodes root) (w : La
           let u : mark_of s r.0 ≡ 0 = ap (λ y. cond y 1 0) t in
           omega (arith, r.4, r.5, x.1, need_some b)
       none p (inr x) = omega (arith, r.4, r.5, x, need_some b, mark_few s r.0)
+
       go : Meets nodes root normal w some r.0 g ⊎ PutsOff nodes root normal w some r.0 n f → holds_now nodes root normal w some n i ≡ true
       go (inl p) = holds_node nodes root normal w some n i (Until f g) l e ∙ until_first w some (λ x. tree_holds w (formula_at nodes f) x) (λ x. tree_holds w (formula_at nodes g) x) i (sg zero i k s r p (enough q))
       go (inr p) = absurd (none p q)
@@ -266,6 +272,7 @@ module _ (nodes : List Node) (root : ℕ) (normal : IsNormal nodes root) (w : La
       enough : ((s.level ≤ j) × (need b ≤ k)) ⊎ (need b + 1 ≤ k) → need b ≤ k
       enough (inl p) = p.1
       enough (inr p) = omega arith
+
       rest : PutsOff nodes root normal w some r.0 n f → ((s.level ≤ j) × (need b ≤ k)) ⊎ (need b + 1 ≤ k) → (t : Bool) → is_marked (untils_in nodes) s.level r.0 ≡ t
           → (((to_next s r.0).level ≤ j) × (need b ≤ r.3)) ⊎ (need b + 1 ≤ r.3)
       rest p (inl x) t y =
@@ -279,12 +286,13 @@ module _ (nodes : List Node) (root : ℕ) (normal : IsNormal nodes root) (w : La
           let v : (to_next s r.0).level ≡ 0 = ap (λ v. cond v 0 (risen (untils_in nodes) s.level r.0)) y in
           inl (omega arith, omega (arith, r.4, x))
       rest p (inr x) false y = let u : mark_of s r.0 ≡ 0 = ap (λ v. cond v 1 0) y in inr (omega (arith, r.4, x))
+
       go : Meets nodes root normal w some r.0 g ⊎ PutsOff nodes root normal w some r.0 n f → (PutsOff nodes root normal w some r.0 n f → holds_now nodes root normal w some n (suc i) ≡ true) → holds_now nodes root normal w some n i ≡ true
       go (inl p) rec = holds_node nodes root normal w some n i (Until f g) l e ∙ until_first w some (λ x. tree_holds w (formula_at nodes f) x) (λ x. tree_holds w (formula_at nodes g) x) i (sg (suc m) i k s r p (enough q))
       go (inr p) rec =
           holds_node nodes root normal w some n i (Until f g) l e
           ∙ until_step w some (λ x. tree_holds w (formula_at nodes f) x) (λ x. tree_holds w (formula_at nodes g) x) i (sf (suc m) i k s r p.left (enough q))
-            (sym (holds_node nodes root normal w some n (suc i) (Until f g) l e) ∙ rec p)
+          (sym (holds_node nodes root normal w some n (suc i) (Until f g) l e) ∙ rec p)
 
   sound_release : (b n f g : ℕ) → n < length nodes → node_at nodes n ≡ Release f g → Sound b f → Sound b g
       → (j m i k : ℕ) (s : Spot) (r : CoverRun (suc m) i s k) → Meets nodes root normal w some r.0 n → need b + j ≤ k
@@ -296,14 +304,17 @@ module _ (nodes : List Node) (root : ℕ) (normal : IsNormal nodes root) (w : La
     where
       enough : need b + j ≤ r.3
       enough = omega (arith, r.4, mark_few s r.0)
+
       later : (m : ℕ) → CoverRun m (suc i) (to_next s r.0) r.3 → has (r.0).next n ≡ true
           → ((m' : ℕ) (x : CoverRun (suc m') (suc i) (to_next s r.0) r.3) → Meets nodes root normal w some x.0 n → release_within w (λ x. tree_holds w (formula_at nodes f) x) (λ x. tree_holds w (formula_at nodes g) x) j (pos w (suc i)) ≡ true)
           → release_within w (λ x. tree_holds w (formula_at nodes f) x) (λ x. tree_holds w (formula_at nodes g) x) j (pos w (suc i)) ≡ true
       later zero x t rec = absurd (omega (arith, x, need_some b, enough))
       later (suc m') x t rec = rec m' x (next_meets m' (suc i) r.3 s r.0 n l t x)
+
       second : (y z : Bool) → z ≡ true → (y || z) ≡ true
       second true z h = refl
       second false z h = h
+
       go : Meets nodes root normal w some r.0 f ⊎ (has (r.0).next n ≡ true) → (has (r.0).next n ≡ true → release_within w (λ x. tree_holds w (formula_at nodes f) x) (λ x. tree_holds w (formula_at nodes g) x) j (pos w (suc i)) ≡ true)
           → (tree_holds w (formula_at nodes f) (pos w i) || release_within w (λ x. tree_holds w (formula_at nodes f) x) (λ x. tree_holds w (formula_at nodes g) x) j (pos w (suc i))) ≡ true
       go (inl p) rec = ap (λ y. y || release_within w (λ x. tree_holds w (formula_at nodes f) x) (λ x. tree_holds w (formula_at nodes g) x) j (pos w (suc i))) (sf m i k s r p (omega arith))
@@ -322,6 +333,7 @@ module _ (nodes : List Node) (root : ℕ) (normal : IsNormal nodes root) (w : La
       second : (y z : Bool) → z ≡ true → (y || z) ≡ true
       second true z h = refl
       second false z h = h
+
       go : Meets nodes root normal w some r.0 f ⊎ Meets nodes root normal w some r.0 g → (tree_holds w (formula_at nodes f) (pos w i) || tree_holds w (formula_at nodes g) (pos w i)) ≡ true
       go (inl p) = ap (λ y. y || tree_holds w (formula_at nodes g) (pos w i)) (rec f o.0 m i k s r p (omega arith))
       go (inr p) = second (tree_holds w (formula_at nodes f) (pos w i)) _ (rec g o.1 m i k s r p (omega arith))
@@ -329,6 +341,7 @@ module _ (nodes : List Node) (root : ℕ) (normal : IsNormal nodes root) (w : La
     where
       enough : need b ≤ r.3
       enough = omega (arith, r.4, mark_few s r.0)
+
       later : (m : ℕ) → CoverRun m (suc i) (to_next s r.0) r.3 → has (r.0).next f ≡ true → holds_now nodes root normal w some f (suc i) ≡ true
       later zero x t = absurd (omega (arith, x, need_some b, enough))
       later (suc m') x t = rec f o m' (suc i) r.3 (to_next s r.0) x (next_meets m' (suc i) r.3 s r.0 f (omega arith) t x) enough
@@ -462,9 +475,16 @@ module _ (nodes : List Node) (root : ℕ) (normal : IsNormal nodes root) (w : La
         let e : (to_next s c).level ≡ risen (untils_in nodes) s.level c = ap (λ b. cond b 0 (risen (untils_in nodes) s.level c)) m in
         let u = until_at_place nodes (risen (untils_in nodes) s.level c) 0 l in
         let h = g.postponed (get_or (untils_in nodes) (risen (untils_in nodes) s.level c) 0) (risen_stop (untils_in nodes) s.level 0 c l) u.0 u.1 u.2 in
-        let k = until_within_nodes nodes (get_or (untils_in nodes) (risen (untils_in nodes) s.level c) 0) u.0 u.1 u.2 in
-        (e, l, (u.0, u.1, ap (λ j. node_at nodes (get_or (untils_in nodes) j 0)) e ∙ u.2,
-                sym (holds_node nodes root normal w some (get_or (untils_in nodes) (risen (untils_in nodes) s.level c) 0) (suc i) (Until u.0 u.1) k u.2) ∙ h.1))
+        let k = until_within_nodes nodes (get_or (untils_in nodes) (risen (untils_in nodes) s.level c) 0) u.0 u.1 u.2 in (
+          e,
+          l,
+          (
+            u.0,
+            u.1,
+            ap (λ j. node_at nodes (get_or (untils_in nodes) j 0)) e ∙ u.2,
+            sym (holds_node nodes root normal w some (get_or (untils_in nodes) (risen (untils_in nodes) s.level c) 0) (suc i) (Until u.0 u.1) k u.2) ∙ h.1,
+          ),
+        )
 
     -- by how many untils are left above the level, and then by how far the until at the level is
     reach_within : (n d : ℕ) (s : Spot) (i : ℕ) → ((t : Spot) (j : ℕ) → s.level < t.level → t.level < length (untils_in nodes) → InSpots t → Fine t j → Waits (size w) t j → Reaches t j)
@@ -485,9 +505,10 @@ module _ (nodes : List Node) (root : ℕ) (normal : IsNormal nodes root) (w : La
             waiting true b c x y = absurd (both_ways true x refl)
             waiting false true c x y = y
             waiting false false c x y = absurd (both_ways false refl y)
+
         go : (c : CoverSets) → Taken s c → (g : Good nodes root normal w some c i) → (b : Bool) → is_marked (untils_in nodes) s.level c ≡ b
             → ((t : Spot) → ((u : Spot) (j : ℕ) → t.level < u.level → u.level < length (untils_in nodes) → InSpots u → Fine u j → Waits (size w) u j → Reaches u j)
-               → t.level < length (untils_in nodes) → InSpots t → Fine t (suc i) → Waits d t (suc i) → Reaches t (suc i)) → Reaches s i
+            → t.level < length (untils_in nodes) → InSpots t → Fine t (suc i) → Waits d t (suc i) → Reaches t (suc i)) → Reaches s i
         go c t g true m rec = reaches_now s i c p t g m
         go c t g false m rec =
             let v = waits_next s i c g m in
@@ -558,6 +579,7 @@ module _ (nodes : List Node) (root : ℕ) (normal : IsNormal nodes root) (w : La
       where
         bits : bits_at w (pos w i) ≡ bits_at w i
         bits = sym (bits_pos w some i)
+
         go : (p : Bool) → tree_holds w (literal x p) (pos w i) ≡ cond p (nat_eq (bit_at (bits_at w i) x) 1) (not (nat_eq (bit_at (bits_at w i) x) 1))
         go true = ap (λ b. nat_eq (bit_at b x) 1) bits
         go false = ap (λ b. not (nat_eq (bit_at b x) 1)) bits
@@ -570,19 +592,23 @@ module _ (nodes : List Node) (root : ℕ) (normal : IsNormal nodes root) (w : La
         let s : Spot = get_or spots q (first_spot root) in
         let p = led_in (get_or spots q (first_spot root)) (q, l, refl) in
         let c = edge_from (literals_in nodes) (untils_in nodes) spots (get_or spots q (first_spot root)).level p.list e
-                (is_contained _ e (subst (λ es. Contains es e) (edges_of q l ∙ state_edges (get_or spots q (first_spot root)) p) r.0)) in
+        (is_contained _ e (subst (λ es. Contains es e) (edges_of q l ∙ state_edges (get_or spots q (first_spot root)) p) r.0)) in
         let t : Taken (get_or spots q (first_spot root)) c.0 = (p.list, p.is, is_in p.list c.0 c.1) in
         let g = goes_to (get_or spots q (first_spot root)) c.0 (q, l, refl) t in
         let next : e.next ≡ position_or_len (same_spot (to_next (get_or spots q (first_spot root)) c.0)) spots = ap (λ (x : Edge). x.next) (sym c.2) in
         let inside : e.next < length spots = subst (λ n. n < length spots) (sym next) g.0 in
         let there : get_or spots e.next (first_spot root) ≡ to_next (get_or spots q (first_spot root)) c.0 = ap (λ n. get_or spots n (first_spot root)) next ∙ g.1 in
-        let held : holds (cube_in (literals_in nodes) (c.0).literals) (bits_at w i) ≡ true = subst (λ (x : Edge). holds x.cube (bits_at w i) ≡ true) (sym c.2) r.1 in
-        (c.0, t,
-         λ n x b f h. letter_is n x b i f
-             ∙ cube_meets (literals_in nodes) (c.0).literals (bits_at w i) held
-               (λ l k ml mk hl hk pl pk sg. consistent_apart nodes (c.0).literals l k (set_consistent (get_or spots q (first_spot root)).set p.list p.is c.0 (is_in p.list c.0 c.1)) ml mk hl hk pl pk sg)
-               (literal_by n x b) (literal_of_node nodes n x b (lit_within nodes n x b f) f) h,
-         count es, ap (λ (x : Edge). cond x.marked 1 0 + count es) (sym c.2), subst (λ t. CoverRun m (suc i) t (count es)) there (to_run m (suc i) e.next es inside r.2))
+        let held : holds (cube_in (literals_in nodes) (c.0).literals) (bits_at w i) ≡ true = subst (λ (x : Edge). holds x.cube (bits_at w i) ≡ true) (sym c.2) r.1 in (
+          c.0,
+          t,
+          λ n x b f h. letter_is n x b i f
+              ∙ cube_meets (literals_in nodes) (c.0).literals (bits_at w i) held
+              (λ l k ml mk hl hk pl pk sg. consistent_apart nodes (c.0).literals l k (set_consistent (get_or spots q (first_spot root)).set p.list p.is c.0 (is_in p.list c.0 c.1)) ml mk hl hk pl pk sg)
+              (literal_by n x b) (literal_of_node nodes n x b (lit_within nodes n x b f) f) h,
+          count es,
+          ap (λ (x : Edge). cond x.marked 1 0 + count es) (sym c.2),
+          subst (λ t. CoverRun m (suc i) t (count es)) there (to_run m (suc i) e.next es inside r.2),
+        )
 
     pub record EdgeRun (q m i k : ℕ) : Type 0 where
       pub edges : List Edge
@@ -598,15 +624,15 @@ module _ (nodes : List Node) (root : ℕ) (normal : IsNormal nodes root) (w : La
         let g = goes_to s p.0 (q, l, e) p.1 in
         let edge : Edge = edge_in (literals_in nodes) (untils_in nodes) spots s.level p.0 in
         let has_it : Is (edge_in (literals_in nodes) (untils_in nodes) spots s.level p.0) (edges_in (literals_in nodes) (untils_in nodes) spots s.level led.list) =
-            edge_to (literals_in nodes) (untils_in nodes) spots s.level led.list p.0 (in_is led.list p.0 (same_list s p.0 led p.1)) in
+        edge_to (literals_in nodes) (untils_in nodes) spots s.level led.list p.0 (in_is led.list p.0 (same_list s p.0 led p.1)) in
         let contains : Contains (edges_at (automaton_in (walk_data nodes signals) spots) q) (edge_in (literals_in nodes) (untils_in nodes) spots s.level p.0) =
-            subst (λ es. Contains es (edge_in (literals_in nodes) (untils_in nodes) spots s.level p.0))
-            (sym (edges_of q l ∙ ap (state_in (walk_data nodes signals) spots) e ∙ state_edges s led)) (contained_is _ (edge_in (literals_in nodes) (untils_in nodes) spots s.level p.0) has_it) in
+        subst (λ es. Contains es (edge_in (literals_in nodes) (untils_in nodes) spots s.level p.0))
+        (sym (edges_of q l ∙ ap (state_in (walk_data nodes signals) spots) e ∙ state_edges s led)) (contained_is _ (edge_in (literals_in nodes) (untils_in nodes) spots s.level p.0) has_it) in
         let held : holds (cube_in (literals_in nodes) (p.0).literals) (bits_at w i) ≡ true =
-            cube_met (literals_in nodes) (p.0).literals (bits_at w i)
-            (λ x m h.
-             let f = node_of_literal nodes x m in
-             sym (letter_is x.number x.signal x.positive i f) ∙ (p.2).literals x.number h) in
+        cube_met (literals_in nodes) (p.0).literals (bits_at w i)
+        (λ x m h.
+        let f = node_of_literal nodes x m in
+        sym (letter_is x.number x.signal x.positive i f) ∙ (p.2).literals x.number h) in
         let r = from_path m (suc i) p.3 (position_or_len (same_spot (to_next s p.0)) spots) (to_next s p.0) t g.0 g.1 p.5 in
         record {
           edges = edge_in (literals_in nodes) (untils_in nodes) spots s.level p.0 ∷ r.edges;
@@ -636,3 +662,8 @@ module _ (nodes : List Node) (root : ℕ) (normal : IsNormal nodes root) (w : La
 
 pub accepts_by_truth : AcceptsByTruth
 accepts_by_truth nodes root signals spots normal fnd w some = (accepted_true nodes root normal w some signals spots fnd, true_accepted nodes root normal w some signals spots fnd)
+
+-- an automaton of the states that are found
+pub accepts_found : (nodes : List Node) (root signals : ℕ) (a : AutomatonData) → IsNormal nodes root
+    → (spots : List Spot) × (all_spots (walk_data nodes signals) root ≡ found spots) × (a ≡ automaton_in (walk_data nodes signals) spots) → AcceptsTruthOf nodes root a
+accepts_found nodes root signals a normal p = subst (AcceptsTruthOf nodes root) (sym p.2) (accepts_by_truth nodes root signals p.0 normal p.1)
