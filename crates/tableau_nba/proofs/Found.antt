@@ -1,20 +1,19 @@
 -- The states that a walk finds, and their edges.
-use Rattle.std.proofs.Common.{◌≡◌, ℕ, zero, suc, ◌+◌, ◌<◌, ◌≤◌, ◌⊎◌, inl, inr, Bool, true, false, not, ◌&&◌, ◌||◌, cond, nat_eq, nat_le, nat_lt, eqb, List, [], ◌∷◌, ◌++◌, length, map, get_or, drop, Option, Some, None, refl, sym, ap, ◌∙◌, subst, arith}
+use Rattle.std.proofs.Common.{◌≡◌, ℕ, zero, suc, ◌+◌, ◌<◌, ◌≤◌, ◌⊎◌, inl, inr, Bool, true, false, not, ◌||◌, cond, nat_le, eqb, List, [], ◌∷◌, ◌++◌, length, map, get_or, Option, Some, None, refl, sym, ap, ◌∙◌, subst, arith}
 use Rattle.std.specs.Prelude.{slice_get}
-use Rattle.std.specs.List.{Contains, list_all, list_any, position_or_len}
-use Rattle.std.proofs.lemmas.Bool.{and_parts, and_from, both_ways, eq-eqb, eqb-false, eqb-true, leb-true, ltb-true, ltb-false, or_cases}
-use Rattle.std.proofs.lemmas.List.{append-nil, get_or_append_left, get_or_default, get_or-map, length-append, length-map, append_assoc}
+use Rattle.std.specs.List.{Contains, list_any, position_or_len}
+use Rattle.std.proofs.lemmas.Bool.{and_parts, both_ways, eqb-false, eqb-true, leb-true, or_cases}
+use Rattle.std.proofs.lemmas.List.{append-nil, get_or_append_left, get_or_default, length-append, append_assoc}
 use mathlib.Core.Bool.{beq}
 use Rattle.indexmap.specs.IndexSet.{insert_key, insert_all}
 use Rattle.word_core.specs.declared.automata.Edge.{Edge}
 use Rattle.cover_sets.specs.Cover.{covers_in}
 use Rattle.cover_sets.specs.Covers.{CoverSets, Row}
-use Rattle.cover_sets.proofs.Members.{IsIn}
 use Rattle.tableau_nba.specs.declared.cubes.Literal.{Literal}
 use Rattle.tableau_nba.specs.Tableau.{WalkData}
-use Rattle.tableau_nba.specs.Walks.{Outcome, Spot, all_spots, behind, edge_in, edges_in, first_spot, found, from_state, grown, list_in, same_edge, same_spot, state_in, target, too_many, too_wide, walk}
+use Rattle.tableau_nba.specs.Walks.{Spot, behind, edge_in, edges_in, found, from_state, grown, same_edge, same_spot, target, too_many, walk}
 use Rattle.tableau_nba.proofs.Growing.{keys_behind, leads, leads_grown, leads_more}
-use Rattle.tableau_nba.proofs.Spots.{position_found, same_self}
+use Rattle.tableau_nba.proofs.Spots.{position_found}
 use Rattle.tableau_nba.proofs.Visits.{none_past, some_at, some_within}
 
 -- ---- members of any list

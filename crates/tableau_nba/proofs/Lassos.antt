@@ -3,7 +3,7 @@ use Rattle.std.proofs.Common.{◌≡◌, ℕ, zero, suc, ◌+◌, ◌-◌, ◌*�
 use Rattle.std.specs.Prelude.{slice_get}
 use Rattle.std.proofs.lemmas.Bool.{and_parts, and_from, both_ways, not-false, not-true, or_cases, lt-ltb, le-ltb, ltb-true, ltb-false}
 use Rattle.std.proofs.lemmas.Nat.{div-add-mod', mod-mul-add, mod_below}
-use Rattle.word_core.specs.Lasso.{LassoData, bits_at, bits_of, letter_at, prefix, size}
+use Rattle.word_core.specs.Lasso.{LassoData, bits_at, bits_of, prefix, size}
 use Rattle.ltl_form.specs.Meaning.{after, release_at, release_within, until_at, until_within}
 
 -- the position of letter n of the unrolling

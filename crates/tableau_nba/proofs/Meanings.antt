@@ -1,25 +1,25 @@
 -- What the covers of formulas and of sets of them say of a lasso.
-use Rattle.std.proofs.Common.{◌≡◌, ℕ, zero, suc, ◌+◌, ◌^◌, ◌<◌, ◌≤◌, ◌≢◌, ◌⊎◌, inl, inr, Bool, true, false, not, ◌&&◌, ◌||◌, cond, nat_eq, nat_le, nat_lt, eqb, List, [], ◌∷◌, ◌++◌, length, map, get_or, Option, Some, None, refl, sym, ap, ◌∙◌, subst, arith}
+use Rattle.std.proofs.Common.{◌≡◌, ℕ, zero, suc, ◌+◌, ◌^◌, ◌<◌, ◌≤◌, ◌⊎◌, inl, inr, Bool, true, false, not, ◌&&◌, cond, nat_eq, nat_le, nat_lt, eqb, List, [], ◌∷◌, ◌++◌, length, map, get_or, Some, None, refl, sym, ap, ◌∙◌, subst, arith}
 use Rattle.std.specs.Prelude.{bit_and, bit_or, All}
 use Rattle.std.specs.Int.{bit_at}
 use Rattle.std.specs.List.{filter, flat_map, list_any, range_with_len}
-use Rattle.std.proofs.lemmas.Bool.{and_parts, and_from, both_ways, not-false, not-true, or_cases, eqb-true, eqb-false, ltb-true, ltb-false, leb-true}
+use Rattle.std.proofs.lemmas.Bool.{and_parts, both_ways, not-true, or_cases, eqb-true, eqb-false, ltb-true, ltb-false}
 use Rattle.std.proofs.lemmas.List.{get_or_past}
 use Rattle.std.proofs.lemmas.List.Elements.{All-append, All-cons, All-head, All-nil, All-tail}
 use Rattle.std.proofs.lemmas.Nat.{or_lt, pow_below, pow_pos}
-use Rattle.std.proofs.lemmas.Nat.Bits.{same_from_bits, bit_at_and, bit_at_or, bit_at-lt, bit_at-zero, bit_at-pow_same, bit_at-pow_other}
+use Rattle.std.proofs.lemmas.Nat.Bits.{same_from_bits, bit_at_and, bit_at_or, bit_at-zero, bit_at-pow_same, bit_at-pow_other}
 use Rattle.ltl_form.specs.declared.normals.Node.{Node}
 use Rattle.ltl_form.specs.declared.normals.Node.TheVariants.{True, False, Lit, And, Or, Next, Until, Release}
 use Rattle.ltl_form.specs.Normal.{IsNodeAt, IsNormal}
-use Rattle.ltl_form.specs.Meaning.{after, release_at, signal_at, tree_holds, until_at}
+use Rattle.ltl_form.specs.Meaning.{release_at, signal_at, tree_holds}
 use Rattle.ltl_form.specs.NodeTrees.{formula_at}
-use Rattle.word_core.specs.Lasso.{LassoData, bits_at, size}
+use Rattle.word_core.specs.Lasso.{LassoData}
 use Rattle.cover_sets.specs.Covers.{CoverSets, Row, both, consistent, contrary, narrow, negations, no_demand, node_at, only, opposites, pairs_with, part_of, products, raw_of, reduced, reduced_row, release_raw, row_at, rows_of, set_row, times, until_raw, with_members, with_two}
 use Rattle.cover_sets.specs.Numbers.{has, is_part}
 use Rattle.cover_sets.specs.Reduced.{Narrow}
 use Rattle.cover_sets.proofs.Members.{IsIn, all_in, in_all, in_either, in_left, in_right}
 use Rattle.cover_sets.proofs.Orders.{no_bit, one_bit}
-use Rattle.cover_sets.proofs.Parts.{Parts, is_is_part, part_is, part_self, part_trans, parts_of, part_from}
+use Rattle.cover_sets.proofs.Parts.{is_is_part, part_is, part_self, part_trans, parts_of, part_from}
 use Rattle.cover_sets.proofs.ReducedLists.{reduced_in, reduced_within}
 use Rattle.tableau_nba.proofs.Lassos.{pos, release_open, until_waits}
 use Rattle.tableau_nba.proofs.Rows.{row_is, rows_each, tree_by, tree_is}

@@ -1,13 +1,13 @@
 -- The tree and the row of each formula over those of its operands.
-use Rattle.std.proofs.Common.{◌≡◌, ℕ, zero, suc, ◌+◌, ◌<◌, ◌≤◌, Bool, true, false, List, [], ◌∷◌, ◌++◌, length, get_or, Option, Some, None, refl, sym, ap, ◌∙◌, subst, arith}
+use Rattle.std.proofs.Common.{◌≡◌, ℕ, zero, suc, ◌+◌, ◌<◌, List, [], ◌∷◌, ◌++◌, length, get_or, None, refl, sym, ap, ◌∙◌, arith}
 use Rattle.std.specs.Prelude.{fold}
-use Rattle.std.proofs.lemmas.List.{get_or_append_left, get_or_at, get_or_default, length_push}
+use Rattle.std.proofs.lemmas.List.{get_or_append_left, get_or_at, length_push}
 use Rattle.ltl_form.specs.declared.normals.Node.{Node}
 use Rattle.ltl_form.specs.declared.normals.Node.TheVariants.{True, False, Lit, And, Or, Next, Until, Release}
 use Rattle.ltl_form.specs.Normal.{IsNodeAt, IsNormal}
 use Rattle.ltl_form.specs.NodeTrees.{formula_at, node_tree, node_trees}
 use Rattle.ltl_form.specs.Tree.{Tree, truth, falsity, literal, conjoined, disjoined, following, until, release}
-use Rattle.cover_sets.specs.Covers.{CoverSets, Row, node_at, opposites, products, raw_of, reduced_row, release_raw, row_at, rows_after, rows_of, until_raw, with_two}
+use Rattle.cover_sets.specs.Covers.{Row, node_at, opposites, products, raw_of, reduced_row, release_raw, row_at, rows_after, rows_of, until_raw, with_two}
 
 module _ {A X : Type 0} (step : List A → X → A) where
   -- each step adds an entry, which may look up the entries before it

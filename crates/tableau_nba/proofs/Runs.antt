@@ -1,35 +1,32 @@
 -- Runs of a tableau as rows of covers, and what they say of a lasso.
-use Rattle.std.proofs.Common.{◌≡◌, ◌↔◌, ℕ, zero, suc, ◌+◌, ◌-◌, ◌^◌, ◌<◌, ◌≤◌, ◌⊎◌, inl, inr, Bool, true, false, not, ◌&&◌, ◌||◌, cond, nat_eq, nat_le, nat_lt, eqb, List, [], ◌∷◌, ◌++◌, length, map, get_or, drop, Option, Some, None, refl, sym, ap, ◌∙◌, subst, arith}
-use Rattle.std.specs.Prelude.{IsSomeAnd}
+use Rattle.std.proofs.Common.{◌≡◌, ℕ, zero, suc, ◌+◌, ◌-◌, ◌^◌, ◌<◌, ◌≤◌, ◌⊎◌, inl, inr, Bool, true, false, not, ◌&&◌, ◌||◌, cond, nat_eq, nat_lt, eqb, List, [], ◌∷◌, ◌++◌, length, get_or, drop, Some, refl, sym, ap, ◌∙◌, subst, arith}
 use Rattle.std.specs.Int.{bit_at}
 use Rattle.std.specs.List.{Contains, filter, flat_map, list_any, position_or_len, range_with_len}
-use Rattle.std.proofs.lemmas.Bool.{and_parts, and_from, both_ways, eq-eqb, eqb-true, eqb-false, leb-true, leb-false, le-leb, lt-leb, ltb-true, ltb-false, not-true, or_cases}
-use Rattle.std.proofs.lemmas.List.{get_or-drop, get_or_past, get_or-map, get_or_append_left, length-drop, length-map}
+use Rattle.std.proofs.lemmas.Bool.{and_from, both_ways, eq-eqb, eqb-true, eqb-false, leb-false, lt-leb, ltb-true, ltb-false, not-true}
+use Rattle.std.proofs.lemmas.List.{get_or-drop, get_or_past, get_or-map, length-drop}
 use Rattle.ltl_form.specs.declared.normals.Node.{Node}
 use Rattle.ltl_form.specs.declared.normals.Node.TheVariants.{True, False, Lit, And, Or, Next, Until, Release}
 use Rattle.ltl_form.specs.Normal.{IsNodeAt, IsNormal}
-use Rattle.ltl_form.specs.Meaning.{after, release_within, signal_at, tree_holds, until_at, until_within}
+use Rattle.ltl_form.specs.Meaning.{release_within, tree_holds, until_within}
 use Rattle.ltl_form.specs.NodeTrees.{formula_at}
 use Rattle.ltl_form.specs.Tree.{literal}
 use Rattle.word_core.specs.declared.automata.Edge.{Edge}
 use Rattle.word_core.specs.Automaton.{AutomatonData, edges_at}
 use Rattle.word_core.specs.Cube.{holds}
-use Rattle.word_core.specs.Lasso.{LassoData, bits_at, prefix, size}
-use Rattle.word_core.specs.Run.{Accepts, IsRun, IsRunFrom, count}
-use Rattle.cover_sets.specs.Cover.{covers_in}
-use Rattle.cover_sets.specs.Covers.{CoverSets, Row, consistent, contrary, negations, no_demand, node_at, opposites, pairs_with, products, reduced, rows_of, set_row, times, with_members}
+use Rattle.word_core.specs.Lasso.{LassoData, bits_at, size}
+use Rattle.word_core.specs.Run.{Accepts, IsRunFrom, count}
+use Rattle.cover_sets.specs.Covers.{CoverSets, Row, consistent, contrary, negations, no_demand, node_at, opposites, pairs_with, products, rows_of, set_row, times, with_members}
 use Rattle.cover_sets.specs.Numbers.{has}
 use Rattle.cover_sets.proofs.FormulaRows.{consistent_none}
 use Rattle.cover_sets.proofs.Members.{IsIn}
 use Rattle.cover_sets.proofs.ReducedLists.{reduced_in}
 use Rattle.tableau_nba.specs.declared.cubes.Literal.{Literal}
 use Rattle.tableau_nba.specs.Acceptance.{AcceptsByTruth, AcceptsTruthOf}
-use Rattle.tableau_nba.specs.Tableau.{WalkData}
 use Rattle.tableau_nba.specs.Walks.{Spot, all_spots, automaton_in, cube_in, edge_in, edges_in, first_spot, found, is_marked, is_until, list_in, literals_in, met, risen, same_spot, state_in, target, untils_in, walk_data}
 use Rattle.tableau_nba.proofs.CubeTruth.{cube_meets, cube_met, literal_by, literal_of_node, meets_literal, node_of_literal}
 use Rattle.tableau_nba.proofs.Found.{Extends, Is, Led, contained_is, edge_from, edge_to, is_contained, leads_to, walk_found}
 use Rattle.tableau_nba.proofs.Lassos.{bits_pos, letters, pos, prefix_letters, until_first, until_step}
-use Rattle.tableau_nba.proofs.Meanings.{Good, Meets, PutsOff, has_none, has_only, has_self, holds_node, holds_now, lit_within, meets_and, meets_false, meets_lit, meets_next, meets_or, meets_release, meets_until, set_good, set_meets, times_some}
+use Rattle.tableau_nba.proofs.Meanings.{Good, Meets, PutsOff, has_only, has_self, holds_node, holds_now, lit_within, meets_and, meets_false, meets_lit, meets_next, meets_or, meets_release, meets_until, set_good, set_meets, times_some}
 
 in_is : (xs : List CoverSets) (c : CoverSets) → IsIn c xs → Is c xs
 in_is [] c m = m
