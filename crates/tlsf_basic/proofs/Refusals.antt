@@ -1,10 +1,9 @@
 -- From what the steps of reading tell to the specification or the fault of a text.
-use Rattle.std.proofs.Common.{◌≡◌, ℕ, ◌≤◌, ◌+◌, Bool, false, List, ◌++◌, length, vec_len, map, slice_get, string_bytes, encode_utf8_all, Result, Ok, Err, Option, Some, sym, refl, ap, ◌∙◌, subst, arith, length-append}
+use Rattle.std.proofs.Common.{◌≡◌, ℕ, ◌≤◌, ◌+◌, Bool, List, length, slice_get, Result, Ok, Err, Some, sym, ap, ◌∙◌, subst, arith, length-append}
 use Rattle.std.specs.Prelude.{IfErr}
 use Rattle.tlsf_lex.specs.Tokens.{tokens_of, Tells}
 use Rattle.tlsf_lex.specs.declared.tokens.LexError.{LexError}
 use Rattle.tlsf_lex.specs.declared.tokens.LexError.TheVariants as lexical
-use Rattle.tlsf_basic.specs.declared.faults.TextFault.{TextFault}
 use Rattle.tlsf_basic.specs.declared.faults.TextFault.TheVariants.{DuplicateSignal, UnknownSignal, MixedTarget, TooManySignals}
 use Rattle.tlsf_basic.specs.declared.faults.TextError.{TextError}
 use Rattle.tlsf_basic.specs.declared.faults.TextError.TheVariants.{Fault, Memory}
@@ -14,7 +13,7 @@ use Rattle.tlsf_basic.specs.declared.symbols.Lexeme.{Lexeme}
 use Rattle.tlsf_basic.specs.Signals.{inputs_of, outputs_of, numbered, IsFirst, IsNever, is_repeated, is_undeclared}
 use Rattle.tlsf_basic.specs.Mains.{read_text}
 use Rattle.tlsf_basic.specs.TextGrammar.{IsText}
-use Rattle.tlsf_basic.specs.Specification.{place_of, text_error, GivesPlaced, IsLexed, Agrees, AreNamed, all_declared, IsNameFault, repeated, undeclared, IsFault, no_tokens, no_text, of_names, of_target, of_number, IsRefused, IsNameRefused, IsTargetRefused, IsNumberRefused}
+use Rattle.tlsf_basic.specs.Specification.{text_error, GivesPlaced, IsLexed, Agrees, AreNamed, all_declared, IsNameFault, repeated, undeclared, IsFault, no_tokens, no_text, of_names, of_target, of_number, IsRefused, IsNameRefused, IsTargetRefused, IsNumberRefused}
 use Rattle.tlsf_basic.proofs.Exact.{found_text, found_fault}
 
 pub err_gives : {A : Type 0} (Q : TextError → Type 0) (r : Result A TextError) (e y : TextError) → r ≡ Err y → y ≡ e → Q e → IfErr r Q
