@@ -11,9 +11,10 @@ pub mod Lift
 pub mod Loops
 pub mod MainGood
 pub mod Numbered
+pub mod Numbers
+pub mod OneAnswer
 pub mod Refusals
 pub mod RowFacts
-pub mod Numbers
 pub mod Stopping
 pub mod TextGood
 pub mod TextRead
