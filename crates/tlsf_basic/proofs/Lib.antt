@@ -1,3 +1,4 @@
+pub mod Ascii
 pub mod Exact
 pub mod Firsts
 pub mod FormulaGood
