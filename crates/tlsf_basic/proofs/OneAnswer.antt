@@ -1,5 +1,5 @@
 -- A text has one answer: the relations are those of a function.
-use Rattle.std.proofs.Common.{◌≡◌, ℕ, zero, suc, ◌<◌, ◌≤◌, Bool, true, false, not, cond, List, [], ◌∷◌, ◌++◌, length, take, map, slice_get, string_bytes, encode_utf8_all, Result, Ok, Err, Option, Some, None, sym, refl, ap, ◌∙◌, subst, arith, append_assoc, append-nil}
+use Rattle.std.proofs.Common.{◌≡◌, ℕ, zero, suc, ◌<◌, ◌≤◌, Bool, true, false, not, cond, List, [], ◌∷◌, ◌++◌, length, take, map, slice_get, string_bytes, Result, Ok, Err, Option, Some, None, sym, refl, ap, ◌∙◌, subst, arith, append_assoc, append-nil}
 use Rattle.std.specs.Prelude.{◌&&◌}
 use Rattle.std.proofs.lemmas.Option.{same_Some, none-some, slice_get_past}
 use Rattle.word_core.specs.declared.names.Target.{Target}
@@ -161,8 +161,8 @@ module _ (text : List ℕ) (as_written : Bool) where
   same_spec one other s t =
       let v : s.lexemes ≡ t.lexemes = same_lexemes s.lexemes t.lexemes s.lexed t.lexed in
       let x : (s.heading, s.sections) ≡ (t.heading, t.sections) = same_text (numbered text s.lexemes) (s.heading, s.sections) (t.heading, t.sections) s.read (subst (λ z. IsText 256 (numbered text z) (t.heading, t.sections)) (sym v) t.read) in
-      (s.inputs ∙ ap (λ z. map encode_utf8_all (map (name_of text) (inputs_of z))) v ∙ sym t.inputs,
-      s.outputs ∙ ap (λ z. map encode_utf8_all (map (name_of text) (outputs_of z))) v ∙ sym t.outputs,
+      (s.inputs ∙ ap (λ z. map (name_of text) (inputs_of z)) v ∙ sym t.inputs,
+      s.outputs ∙ ap (λ z. map (name_of text) (outputs_of z)) v ∙ sym t.outputs,
       s.target ∙ ap (λ z. z.0.target.target) x ∙ sym t.target,
       s.formula ∙ ap (λ z. formula_of z.0.semantics.strict z.1) x ∙ sym t.formula)
 

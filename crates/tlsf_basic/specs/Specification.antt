@@ -1,5 +1,5 @@
 -- What holds of a specification.
-use Rattle.std.specs.Prelude.{◌≡◌, ℕ, ◌+◌, ◌≤◌, Bool, false, List, [], ◌∷◌, ◌++◌, map, length, slice_get, string_bytes, encode_utf8_all, Some, Result, Ok, Err}
+use Rattle.std.specs.Prelude.{◌≡◌, ℕ, ◌+◌, ◌≤◌, Bool, false, List, [], ◌∷◌, ◌++◌, map, length, slice_get, string_bytes, Some, Result, Ok, Err}
 use Rattle.word_core.specs.declared.names.Names.{Names}
 use Rattle.tlsf_lex.specs.declared.tokens.LexFault.{LexFault}
 use Rattle.tlsf_lex.specs.declared.tokens.Token.{Token}
@@ -88,8 +88,8 @@ pub record IsSpec (text : List ℕ) (as_written : Bool) (spec : Spec) : Type 0 w
   pub named : AreNamed text (numbered text lexemes)
   pub agrees : Agrees as_written heading
   pub few : length (all_declared lexemes) ≤ 40
-  pub inputs : map string_bytes spec.names.inputs.items ≡ map encode_utf8_all (map (name_of text) (inputs_of lexemes))
-  pub outputs : map string_bytes spec.names.outputs.items ≡ map encode_utf8_all (map (name_of text) (outputs_of lexemes))
+  pub inputs : map string_bytes spec.names.inputs.items ≡ map (name_of text) (inputs_of lexemes)
+  pub outputs : map string_bytes spec.names.outputs.items ≡ map (name_of text) (outputs_of lexemes)
   pub target : spec.names.target ≡ heading.target.target
   pub formula : spec.formula ≡ formula_of heading.semantics.strict sections
 
