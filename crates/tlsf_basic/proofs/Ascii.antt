@@ -1,7 +1,7 @@
 -- The bytes of words and marks are below 128, so a declared name is its bytes.
-use Rattle.std.proofs.Common.{◌≡◌, ℕ, zero, suc, ◌+◌, ◌-◌, ◌<◌, ◌≤◌, min, Bool, true, false, not, cond, List, [], ◌∷◌, ◌++◌, length, take, drop, map, nat_lt, nat_eq, nat_le, ◌==◌, Option, Some, None, Result, Ok, Err, sym, refl, ap, ◌∙◌, subst, arith, append_assoc, append-nil, length-append}
-use Rattle.std.specs.Prelude.{◌||◌, ◌&&◌, unwrap_or, position, filter, codes, slice_range, slice_index, encode_utf8_all}
-use Rattle.std.specs.List.{list_any, starts_with, prefix_len, position_or_len}
+use Rattle.std.proofs.Common.{◌≡◌, ℕ, zero, suc, ◌+◌, ◌-◌, ◌<◌, min, Bool, true, false, not, cond, List, [], ◌∷◌, ◌++◌, length, take, drop, map, nat_lt, nat_eq, nat_le, ◌==◌, Option, Some, None, Result, Ok, Err, sym, refl, ap, ◌∙◌, subst, arith, append_assoc, length-append}
+use Rattle.std.specs.Prelude.{◌||◌, ◌&&◌, unwrap_or, position, filter, codes, slice_range, encode_utf8_all}
+use Rattle.std.specs.List.{list_any, starts_with, position_or_len}
 use Rattle.std.specs.Cmp.Lexicographic.{pointwise}
 use Rattle.std.proofs.lemmas.Bool.Decides.{nat_tests}
 use Rattle.std.proofs.lemmas.Str.{encode_ascii}
@@ -13,7 +13,7 @@ use Rattle.tlsf_lex.specs.declared.tokens.Token.{Token}
 use Rattle.tlsf_lex.specs.declared.tokens.LexFault.TheVariants.{BadByte}
 use Rattle.tlsf_lex.specs.declared.steps.Step.{Step}
 use Rattle.tlsf_lex.specs.declared.steps.Step.TheVariants.{Skip, Take, Bad}
-use Rattle.tlsf_lex.specs.Steps.{in_closed, closed_at, comment_step, slash_step, ended_at, string_step, word_kin, word_step, mark_step, step}
+use Rattle.tlsf_lex.specs.Steps.{in_closed, closed_at, slash_step, ended_at, string_step, word_kin, word_step, mark_step, step}
 use Rattle.tlsf_lex.specs.Tokens.{Placed, in_front, by_step, tokens_at, tokens_of}
 use Rattle.tlsf_basic.specs.declared.symbols.Symbol.{Symbol}
 use Rattle.tlsf_basic.specs.declared.symbols.Symbol.TheVariants as s
@@ -69,18 +69,18 @@ any_ascii (m ∷ ms) b all e = or_true (m == b) (list_any (λ m. m == b) ms) (b 
 
 cut_len : (a b : ℕ) → unwrap_or (cond (nat_lt a b) (Some a) None) b ≡ min a b
 cut_len a b = go (nat_lt a b) refl where
-    go : (c : Bool) → nat_lt a b ≡ c → unwrap_or (cond c (Some a) None) b ≡ min a b
-    go true e = grind (arith, nat_tests)
-    go false e = grind (arith, nat_tests)
+  go : (c : Bool) → nat_lt a b ≡ c → unwrap_or (cond c (Some a) None) b ≡ min a b
+  go true e = grind (arith, nat_tests)
+  go false e = grind (arith, nat_tests)
 
 front_ascii : (test : ℕ → Bool) → ((b : ℕ) → test b ≡ true → b < 128) → (xs : List ℕ) → IsAscii (take (min (position_or_len (λ b. not (test b)) xs) (length xs)) xs)
 front_ascii test small [] = subst (λ n. IsAscii (take n [])) (let e : 0 ≡ min 0 0 = omega arith in e) tt
 front_ascii test small (x ∷ xs) = go (test x) refl (front_ascii test small xs) where
-    go : (c : Bool) → test x ≡ c → IsAscii (take (min (position_or_len (λ b. not (test b)) xs) (length xs)) xs) → IsAscii (take (min (cond (not (not c)) (1 + position_or_len (λ b. not (test b)) xs) 0) (length (x ∷ xs))) (x ∷ xs))
-    go true e rest =
-        let n = min (position_or_len (λ b. not (test b)) xs) (length xs) in
-        subst (λ k. IsAscii (take k (x ∷ xs))) (let h : suc (min (position_or_len (λ b. not (test b)) xs) (length xs)) ≡ min (1 + position_or_len (λ b. not (test b)) xs) (length (x ∷ xs)) = omega arith in h) (small x e, rest)
-    go false e rest = subst (λ k. IsAscii (take k (x ∷ xs))) (let h : 0 ≡ min 0 (length (x ∷ xs)) = omega arith in h) tt
+  go : (c : Bool) → test x ≡ c → IsAscii (take (min (position_or_len (λ b. not (test b)) xs) (length xs)) xs) → IsAscii (take (min (cond (not (not c)) (1 + position_or_len (λ b. not (test b)) xs) 0) (length (x ∷ xs))) (x ∷ xs))
+  go true e rest =
+      let n = min (position_or_len (λ b. not (test b)) xs) (length xs) in
+      subst (λ k. IsAscii (take k (x ∷ xs))) (let h : suc (min (position_or_len (λ b. not (test b)) xs) (length xs)) ≡ min (1 + position_or_len (λ b. not (test b)) xs) (length (x ∷ xs)) = omega arith in h) (small x e, rest)
+  go false e rest = subst (λ k. IsAscii (take k (x ∷ xs))) (let h : 0 ≡ min 0 (length (x ∷ xs)) = omega arith in h) tt
 
 pub word_front : (xs : List ℕ) → IsAscii (take (front_len is_in_word xs) xs)
 word_front xs = subst (λ n. IsAscii (take n xs)) (sym (cut_len (position_or_len (λ b. not (is_in_word b)) xs) (length xs))) (front_ascii is_in_word word_ascii xs)
@@ -200,14 +200,14 @@ module _ (text : List ℕ) where
   by-step pre s b at e len rest (Skip n) is ts h = rest (n - 1) ts h
   by-step pre s b at e len rest (Bad what past) is ts h = cc
   by-step pre s b at e len rest (Take k n) is ts h = go (tokens_at (at + 1) (n - 1) s) refl h where
-      t : Token
-      t = record { kin = k; «from» = at; to = at + n }
+    t : Token
+    t = record { kin = k; «from» = at; to = at + n }
 
-      go : (r : Result (List Token) Placed) → tokens_at (at + 1) (n - 1) s ≡ r → in_front (record { kin = k; «from» = at; to = at + n }) r ≡ Ok ts → Each ts
-      go (Err x) er h' = cc
-      go (Ok us) er h' =
-          subst Each (ap tokens_or h')
-          ((λ plain. subst IsAscii (sym (at_slice pre (b ∷ s) at n e len)) (step_ascii k n plain b s is)), rest (n - 1) us er)
+    go : (r : Result (List Token) Placed) → tokens_at (at + 1) (n - 1) s ≡ r → in_front (record { kin = k; «from» = at; to = at + n }) r ≡ Ok ts → Each ts
+    go (Err x) er h' = cc
+    go (Ok us) er h' =
+        subst Each (ap tokens_or h')
+        ((λ plain. subst IsAscii (sym (at_slice pre (b ∷ s) at n e len)) (step_ascii k n plain b s is)), rest (n - 1) us er)
 
   tokens_ascii : (suffix pre : List ℕ) (at passed : ℕ) → text ≡ pre ++ suffix → length pre ≡ at → (ts : List Token) → tokens_at at passed suffix ≡ Ok ts → Each ts
   unfolding tokens_at
@@ -241,8 +241,8 @@ names_same test declared text z (t ∷ ts) all =
       w = filter (λ x. test x.symbol) (lexemes_of text (zone_behind text z t) ts)
 
       go : (b : Bool) → test (lexeme_of text (zone_behind text z t) t).symbol ≡ b
-        → map encode_utf8_all (map (name_of text) (filter (λ x. test x.symbol) (lexemes_of text (zone_behind text z t) ts))) ≡ map (name_of text) (filter (λ x. test x.symbol) (lexemes_of text (zone_behind text z t) ts))
-        → map encode_utf8_all (map (name_of text) (cond b (lexeme_of text (zone_behind text z t) t ∷ filter (λ x. test x.symbol) (lexemes_of text (zone_behind text z t) ts)) (filter (λ x. test x.symbol) (lexemes_of text (zone_behind text z t) ts))))
+          → map encode_utf8_all (map (name_of text) (filter (λ x. test x.symbol) (lexemes_of text (zone_behind text z t) ts))) ≡ map (name_of text) (filter (λ x. test x.symbol) (lexemes_of text (zone_behind text z t) ts))
+          → map encode_utf8_all (map (name_of text) (cond b (lexeme_of text (zone_behind text z t) t ∷ filter (λ x. test x.symbol) (lexemes_of text (zone_behind text z t) ts)) (filter (λ x. test x.symbol) (lexemes_of text (zone_behind text z t) ts))))
           ≡ map (name_of text) (cond b (lexeme_of text (zone_behind text z t) t ∷ filter (λ x. test x.symbol) (lexemes_of text (zone_behind text z t) ts)) (filter (λ x. test x.symbol) (lexemes_of text (zone_behind text z t) ts)))
       go false e same = same
       go true e same =

@@ -1,6 +1,5 @@
 -- A text has one answer: the relations are those of a function.
-use Rattle.std.proofs.Common.{◌≡◌, ℕ, zero, suc, ◌<◌, ◌≤◌, Bool, true, false, not, cond, List, [], ◌∷◌, ◌++◌, length, take, map, slice_get, string_bytes, Result, Ok, Err, Option, Some, None, sym, refl, ap, ◌∙◌, subst, arith, append_assoc, append-nil}
-use Rattle.std.specs.Prelude.{◌&&◌}
+use Rattle.std.proofs.Common.{◌≡◌, ℕ, zero, suc, ◌<◌, Bool, true, false, cond, List, [], ◌∷◌, ◌++◌, length, take, map, slice_get, Result, Ok, Err, Option, Some, None, sym, refl, ap, ◌∙◌, subst, arith, append_assoc, append-nil}
 use Rattle.std.proofs.lemmas.Option.{same_Some, none-some, slice_get_past}
 use Rattle.word_core.specs.declared.names.Target.{Target}
 use Rattle.word_core.specs.declared.names.Target.TheVariants.{Mealy, Moore}
@@ -15,7 +14,7 @@ use Rattle.tlsf_basic.specs.declared.specifications.Spec.{Spec}
 use Rattle.tlsf_basic.specs.declared.words.Zone.TheVariants as zone
 use Rattle.tlsf_basic.specs.Reads.{Halt}
 use Rattle.tlsf_basic.specs.Words.{lexemes_of}
-use Rattle.tlsf_basic.specs.Signals.{inputs_of, outputs_of, name_of, numbered, IsFirst, IsNever, is_repeated, is_undeclared}
+use Rattle.tlsf_basic.specs.Signals.{inputs_of, outputs_of, name_of, numbered, IsNever, is_repeated, is_undeclared}
 use Rattle.tlsf_basic.specs.Mains.{read_text}
 use Rattle.tlsf_basic.specs.Composition.{formula_of}
 use Rattle.tlsf_basic.specs.TextGrammar.{IsText}
@@ -160,16 +159,18 @@ module _ (text : List ℕ) (as_written : Bool) where
   same_spec : (one other : Spec) → IsSpec text as_written one → IsSpec text as_written other → IsSameSpec one other
   same_spec one other s t =
       let v : s.lexemes ≡ t.lexemes = same_lexemes s.lexemes t.lexemes s.lexed t.lexed in
-      let x : (s.heading, s.sections) ≡ (t.heading, t.sections) = same_text (numbered text s.lexemes) (s.heading, s.sections) (t.heading, t.sections) s.read (subst (λ z. IsText 256 (numbered text z) (t.heading, t.sections)) (sym v) t.read) in
-      (s.inputs ∙ ap (λ z. map (name_of text) (inputs_of z)) v ∙ sym t.inputs,
-      s.outputs ∙ ap (λ z. map (name_of text) (outputs_of z)) v ∙ sym t.outputs,
-      s.target ∙ ap (λ z. z.0.target.target) x ∙ sym t.target,
-      s.formula ∙ ap (λ z. formula_of z.0.semantics.strict z.1) x ∙ sym t.formula)
+      let x : (s.heading, s.sections) ≡ (t.heading, t.sections) = same_text (numbered text s.lexemes) (s.heading, s.sections) (t.heading, t.sections) s.read (subst (λ z. IsText 256 (numbered text z) (t.heading, t.sections)) (sym v) t.read) in (
+        s.inputs ∙ ap (λ z. map (name_of text) (inputs_of z)) v ∙ sym t.inputs,
+        s.outputs ∙ ap (λ z. map (name_of text) (outputs_of z)) v ∙ sym t.outputs,
+        s.target ∙ ap (λ z. z.0.target.target) x ∙ sym t.target,
+        s.formula ∙ ap (λ z. formula_of z.0.semantics.strict z.1) x ∙ sym t.formula,
+      )
 
 pub one_answer : (text : List ℕ) (as_written : Bool) → HasOneAnswer text as_written
-one_answer text as_written =
-    ((λ what other place at one two.
+one_answer text as_written = (
+  (λ what other place at one two.
       let e = same_Some (what, place) (other, at) (sym (at_fault text as_written what place one) ∙ at_fault text as_written other at two) in
       (ap (λ z. z.0) e, ap (λ z. z.1) e)),
-    same_spec text as_written,
-    (λ spec what place s fault. none-some (what, place) (sym (at_spec text as_written spec s) ∙ at_fault text as_written what place fault)))
+  same_spec text as_written,
+  (λ spec what place s fault. none-some (what, place) (sym (at_spec text as_written spec s) ∙ at_fault text as_written what place fault)),
+)
