@@ -25,7 +25,7 @@ doubled_odd b v h = omega arith
 odd_below : (v : ℕ) → v % 2 < 2
 odd_below v = omega arith
 
-half_below : (v w : ℕ) → v < 2 ^ suc w → v / 2 < 2 ^ w
+pub half_below : (v w : ℕ) → v < 2 ^ suc w → v / 2 < 2 ^ w
 half_below v w h = let p : 2 ^ (w + 1) ≡ 2 ^ w * 2 = pow_more 2 w in omega arith
 
 doubled_below : (b v w : ℕ) → b < 2 → v < 2 ^ w → b + v * 2 < 2 ^ suc w

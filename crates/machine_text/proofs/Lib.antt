@@ -1,3 +1,5 @@
 pub mod DigitLaws
 pub mod FieldLaws
+pub mod LassoLaws
 pub mod LineLaws
+pub mod LineSplits

@@ -1,9 +1,12 @@
 //! Lassos from their texts, and back.
 
-ghost use Rattle.std.specs.Prelude.{◌≡◌, ℕ, ◌+◌, ◌-◌, ◌<◌, ◌≤◌, ◌^◌, [], ◌∷◌, ◌++◌, length, IfOk, OnOk, IfSome};
+ghost use Rattle.std.specs.Prelude.{◌≡◌, ℕ, ◌+◌, ◌-◌, ◌<◌, ◌≤◌, ◌^◌, [], ◌∷◌, ◌++◌, length, codes, IfOk, IfErr, OnOk, MatchOption};
 ghost use Rattle.std.specs.List.{All};
-ghost use Rattle.machine_text.specs.Lassos.{lasso_text, letter_lines};
-ghost use Rattle.machine_text.specs.Lines.{joined};
+ghost use Rattle.word_core.specs.Lasso.{LassoData};
+ghost use Rattle.machine_text.specs.declared.errors.LassoError.TheVariants.{Memory};
+ghost use Rattle.machine_text.specs.Fields.{valuation};
+ghost use Rattle.machine_text.specs.Lassos.{lasso_text, letter_lines, AreLetters, IsLasso, HasLassoFault, HasStemFault, HasCycleFault, IsLetterLine};
+ghost use Rattle.machine_text.specs.Lines.{joined, NextIsNone};
 
 use crate::errors::{BadLine, LassoError, Memory};
 use crate::fields::read_valuation;
@@ -16,11 +19,12 @@ use word_core::{Lasso, Letter};
 pub fn read_lasso(alloc: Global, text: &[u8], signals: u32) -> Result<Lasso, LassoError>
     requires narrow { signals ≤ 64 }
     requires short { length text.now < 2 ^ 32 - 1 }
+    ensures value { IfOk result (λ w. IsLasso signals w × (text.now ≡ lasso_text signals w)) }
+    ensures fault { IfErr result (HasLassoFault signals text.now) }
+    ensures back { (w : LassoData) → IsLasso signals w → text.now ≡ lasso_text signals w → IfOk result (λ v. v ≡ w) × IfErr result (λ e. e ≡ Memory) }
 {
     let mut lines = Lines::of(text);
-    if lines.next()? != b"stem".as_slice() {
-        return Err(LassoError::Line(1));
-    }
+    read_stem_line(&mut lines)?;
     let stem = read_stem(alloc, &mut lines, signals)?;
     let cycle = read_cycle(alloc, &mut lines, signals)?;
     match Lasso::make(stem, cycle) {
@@ -29,10 +33,27 @@ pub fn read_lasso(alloc: Global, text: &[u8], signals: u32) -> Result<Lasso, Las
     }
 }
 
+/// The line `stem`.
+fn read_stem_line(lines: &mut Lines<'_>) -> Result<(), BadLine>
+    ensures line { OnOk result (lines.old.rest.now ≡ codes "stem" ++ 10 ∷ lines.new.rest.now) }
+    ensures taken { OnOk result (lines.new.taken ≡ lines.old.taken + 1) }
+    ensures bad { IfErr result (λ e. (e.0 ≡ lines.old.taken + 1) × NextIsNone (λ line. line ≡ codes "stem") lines.old.rest.now) }
+{
+    let line = lines.next()?;
+    if line == b"stem".as_slice() {
+        Ok(())
+    } else {
+        Err(BadLine(lines.taken))
+    }
+}
+
 /// The letters up to the line `cycle`, which is taken too.
 fn read_stem(alloc: Global, lines: &mut Lines<'_>, signals: u32) -> Result<Vec<Letter>, LassoError>
     requires { signals ≤ 64 }
-    ensures { IfOk result (λ letters. All (λ x. x.0 < 2 ^ signals) letters.items) }
+    ensures ranged { IfOk result (λ letters. AreLetters signals letters.items) }
+    ensures text { IfOk result (λ letters. lines.old.rest.now ≡ joined (letter_lines signals letters.items) ++ (codes "cycle" ++ 10 ∷ lines.new.rest.now)) }
+    ensures taken { IfOk result (λ letters. lines.new.taken ≡ lines.old.taken + length letters.items + 1) }
+    ensures fault { IfErr result (HasStemFault signals lines.old.taken lines.old.rest.now) }
 {
     let mut letters = Vec::new(alloc);
     loop {
@@ -40,7 +61,10 @@ fn read_stem(alloc: Global, lines: &mut Lines<'_>, signals: u32) -> Result<Vec<L
         if line == b"cycle".as_slice() {
             return Ok(letters);
         }
-        letters.push(letter_of(line, signals).ok_or(BadLine(lines.taken))?)?;
+        let Some(letter) = letter_of(line, signals) else {
+            return Err(LassoError::Line(lines.taken));
+        };
+        letters.push(letter)?;
     }
 }
 
@@ -48,12 +72,17 @@ fn read_stem(alloc: Global, lines: &mut Lines<'_>, signals: u32) -> Result<Vec<L
 fn read_cycle(alloc: Global, lines: &mut Lines<'_>, signals: u32) -> Result<Vec<Letter>, LassoError>
     requires { signals ≤ 64 }
     ensures some { IfOk result (λ letters. 0 < length letters.items) }
-    ensures ranged { IfOk result (λ letters. All (λ x. x.0 < 2 ^ signals) letters.items) }
+    ensures ranged { IfOk result (λ letters. AreLetters signals letters.items) }
+    ensures text { IfOk result (λ letters. lines.old.rest.now ≡ joined (letter_lines signals letters.items)) }
+    ensures fault { IfErr result (HasCycleFault signals lines.old.taken lines.old.rest.now) }
 {
     let mut letters = Vec::new(alloc);
     loop {
         let line = lines.next()?;
-        letters.push(letter_of(line, signals).ok_or(BadLine(lines.taken))?)?;
+        let Some(letter) = letter_of(line, signals) else {
+            return Err(LassoError::Line(lines.taken));
+        };
+        letters.push(letter)?;
         if lines.rest.is_empty() {
             return Ok(letters);
         }
@@ -63,7 +92,7 @@ fn read_cycle(alloc: Global, lines: &mut Lines<'_>, signals: u32) -> Result<Vec<
 /// The letter that a line is.
 fn letter_of(line: &[u8], signals: u32) -> Option<Letter>
     requires { signals ≤ 64 }
-    ensures { IfSome result (λ x. x.0 < 2 ^ signals) }
+    ensures { MatchOption result (IsLetterLine signals line.now → ⊥) (λ x. (x.0 < 2 ^ signals) × (line.now ≡ valuation signals x.0)) }
 {
     let (bits, rest) = read_valuation(line, signals)?;
     if rest.is_empty() {
