@@ -43,6 +43,7 @@ initial_vector g k = record {
   where
     size : length (initial g) ≡ lanes g
     size = length-map-range_with_len (begins g.init) 0 (lanes g)
+
     at : (q : ℕ) → q < lanes g → lane (initial g) q ≡ begins g.init q
     at q l = get_or-map-range_with_len (begins g.init) 0 (lanes g) q q (pos 0) l (omega arith)
 

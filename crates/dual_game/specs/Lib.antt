@@ -1,3 +1,4 @@
+pub mod Automata
 pub mod Bounds
 pub mod Counting
 pub mod Errors

@@ -1,11 +1,13 @@
 -- Who wins at a bound: a player with a machine, of any size, that keeps the bound on the player's automaton.
-use Rattle.std.specs.Prelude.{◌≡◌, ℕ, ◌≤◌, pos, length}
+use Rattle.std.specs.Prelude.{◌≡◌, ℕ, ◌<◌, ◌≤◌, pos, length}
 use Rattle.word_core.specs.declared.names.Names.{Names}
 use Rattle.word_core.specs.declared.names.Player.{Player}
 use Rattle.word_core.specs.declared.names.Player.TheVariants.{System, Environment}
 use Rattle.word_core.specs.Automaton.{AutomatonData}
 use Rattle.word_core.specs.Machine.{MachineData, IsMachine}
-use Rattle.word_core.specs.Run.{Keeps}
+use Rattle.word_core.specs.Lasso.{LassoData}
+use Rattle.word_core.specs.Play.{IsLassoPlay}
+use Rattle.word_core.specs.Run.{Keeps, Accepts}
 use Rattle.game_form.specs.Covering.{CoversLetters}
 use Rattle.game_form.specs.Game.{GameData}
 use Rattle.game_form.specs.Held.{IsHeld, IsMachineOf, KeepsFrom}
@@ -49,3 +51,16 @@ pub record Decides (a : AutomatonData) (names : Names) (who : Player) (g : GameD
   pub sound : (k : ℕ) (m : MachineData) → k ≤ 10000 → IsMachineOf (with_bound k g) m → KeepsFrom (with_bound k g) m 0 (initial g)
       → IsMachineFor names who m × Keeps a m k
   pub exact : (k : ℕ) → k ≤ 10000 → Wins a names who k → IsHeld (with_bound k g) (initial g)
+
+-- each lasso is accepted by one of two automata
+abbrev pub AreOpposed : AutomatonData → AutomatonData → Type 0
+AreOpposed a b = (w : LassoData) → 0 < length w.cycle → (Accepts a w → ⊥) → (Accepts b w → ⊥) → ⊥
+
+-- where each lasso is accepted by the automaton of one player, only one player wins, whatever the bounds
+abbrev pub OnlyOneWins : Type 0
+OnlyOneWins =
+    (pair : Pair) (names : Names) (j k : ℕ) → AreOpposed pair.system pair.environment → Wins pair.system names System j → Wins pair.environment names Environment k → ⊥
+
+-- a lasso on which a machine keeps a bound isn't accepted
+abbrev pub KeptIsRefused : Type 0
+KeptIsRefused = (a : AutomatonData) (m : MachineData) (w : LassoData) (k : ℕ) → Keeps a m k → IsLassoPlay m w → Accepts a w → ⊥

@@ -1,6 +1,7 @@
 //! Laws that tie games to the automata that they count on.
 
 ghost use Rattle.dual_game.specs.Counting.{CountingIsSound, CountingIsExact};
+ghost use Rattle.dual_game.specs.Winning.{KeptIsRefused, OnlyOneWins};
 
 /// Counting is sound: a machine that keeps every lane of a game at most at the bound, along all its plays, keeps the
 /// bound on the automaton whose edges the game counts. So what the solver finds holds of runs.
@@ -12,4 +13,14 @@ pub fn counting_is_sound()
 /// lost only where no machine of its kind, of any size, keeps the bound.
 pub fn counting_is_exact()
     ensures { CountingIsExact }
+{}
+
+/// A machine that keeps some bound on an automaton has no play that the automaton accepts.
+pub fn kept_is_refused()
+    ensures { KeptIsRefused }
+{}
+
+/// Only one player wins: two machines of opposite players play one lasso together, and one of their automata accepts it.
+pub fn only_one_wins()
+    ensures { OnlyOneWins }
 {}
