@@ -14,11 +14,13 @@ use Rattle.game_form.specs.Game.{GameData, lanes}
 use Rattle.game_form.specs.Held.{HasHeld}
 use Rattle.dual_game.specs.declared.games.Pair.{Pair}
 use Rattle.dual_game.specs.Games.{IsGameOf}
+use Rattle.dual_game.specs.Automata.{IsAutomatonOf, IsPairOf}
 use Rattle.bonsai_words.specs.Ordered.{Asked}
 use Rattle.bonsai_words.specs.Ordered.Asked.{synth, downset, check, eval, gen}
 use Rattle.bonsai_run.specs.declared.verdicts.Verdict.{Verdict}
 use Rattle.bonsai_run.specs.Texts.{IsUnder, IsSpecOf, IsLassoOf}
 use Rattle.bonsai_run.specs.Answers.{IsAnswer, IsVerdict, bounds_of, verdict_of, verdict_text, verdict_comment, downset_text}
+use Rattle.bonsai_run.proofs.Satisfied.{satisfied, alone, kept_avoids}
 use Rattle.bonsai_run.specs.Answers.IsAnswer.{decided, held, valid, over, holds, fails, generated}
 
 module _ (texts : Option Texts) where
@@ -26,24 +28,26 @@ module _ (texts : Option Texts) where
   answer_as order s s' t t' h k a = subst (λ x. IsAnswer texts order x t) (sym h) (subst (IsAnswer texts order s') (sym k) a)
 
   pub is_decided : (name : List ℕ) (bounds : ℕ × ℕ × ℕ) (workers : ℕ) (as_written : Bool) (spec : Spec) (pair : Pair) (v : Verdict) (s : ℕ) (t : List ℕ)
-      → IsSpecOf texts name as_written spec → IsVerdict pair spec.names (bounds_of bounds) v → s ≡ verdict_of v → t ≡ verdict_text spec.names v
+      → IsSpecOf texts name as_written spec → IsPairOf spec.formula pair → IsVerdict pair spec.names (bounds_of bounds) v → s ≡ verdict_of v → t ≡ verdict_text spec.names v
       → IsAnswer texts (synth name bounds workers as_written) s t
-  is_decided name bounds workers as_written spec pair v s t of is h k = answer_as _ s _ t _ h k (decided name bounds workers as_written spec pair v of is)
+  is_decided name bounds workers as_written spec pair v s t of are is h k =
+      answer_as _ s _ t _ h k (decided name bounds workers as_written spec pair v of are is (satisfied spec.formula pair spec.names (bounds_of bounds) v are is) (alone spec.formula pair spec.names (bounds_of bounds) v are is))
 
   pub is_downset : (name : List ℕ) (player : Player) (bound : ℕ) (as_written : Bool) (spec : Spec) (a : AutomatonData) (g : GameData) (vectors : List (List ℤ)) (s : ℕ) (t : List ℕ)
-      → IsSpecOf texts name as_written spec → IsGameOf a spec.names player bound g → HasHeld g vectors → s ≡ 0 → t ≡ downset_text player bound (lanes g) vectors
+      → IsSpecOf texts name as_written spec → IsAutomatonOf spec.formula player a → IsGameOf a spec.names player bound g → HasHeld g vectors → s ≡ 0 → t ≡ downset_text player bound (lanes g) vectors
       → IsAnswer texts (downset name player bound as_written) s t
-  is_downset name player bound as_written spec a g vectors s t of is all h k = answer_as _ s _ t _ h k (held name player bound as_written spec a g vectors of is all)
+  is_downset name player bound as_written spec a g vectors s t of accepts is all h k = answer_as _ s _ t _ h k (held name player bound as_written spec a g vectors of accepts is all)
 
   pub is_valid : (name machine : List ℕ) (bound : ℕ) (as_written : Bool) (spec : Spec) (text : List ℕ) (m : MachineData) (a : AutomatonData) (s : ℕ) (t : List ℕ)
-      → IsSpecOf texts name as_written spec → IsUnder texts machine text → Keeps a m bound → s ≡ 0 → t ≡ codes "VALID" ++ codes "\n"
+      → IsSpecOf texts name as_written spec → IsUnder texts machine text → IsAutomatonOf spec.formula m.player a → Keeps a m bound → s ≡ 0 → t ≡ codes "VALID" ++ codes "\n"
       → IsAnswer texts (check name machine bound as_written) s t
-  is_valid name machine bound as_written spec text m a s t of under keeps h k = answer_as _ s _ t _ h k (valid name machine bound as_written spec text m a of under keeps)
+  is_valid name machine bound as_written spec text m a s t of under accepts keeps h k =
+      answer_as _ s _ t _ h k (valid name machine bound as_written spec text m a of under accepts keeps (kept_avoids spec.formula m.player a m bound accepts keeps))
 
   pub is_over : (name machine : List ℕ) (bound : ℕ) (as_written : Bool) (spec : Spec) (text : List ℕ) (m : MachineData) (a : AutomatonData) (s : ℕ) (t : List ℕ)
-      → IsSpecOf texts name as_written spec → IsUnder texts machine text → (Keeps a m bound → ⊥) → s ≡ 40 → t ≡ codes "OVER" ++ codes "\n"
+      → IsSpecOf texts name as_written spec → IsUnder texts machine text → IsAutomatonOf spec.formula m.player a → (Keeps a m bound → ⊥) → s ≡ 40 → t ≡ codes "OVER" ++ codes "\n"
       → IsAnswer texts (check name machine bound as_written) s t
-  is_over name machine bound as_written spec text m a s t of under keeps h k = answer_as _ s _ t _ h k (over name machine bound as_written spec text m a of under keeps)
+  is_over name machine bound as_written spec text m a s t of under accepts keeps h k = answer_as _ s _ t _ h k (over name machine bound as_written spec text m a of under accepts keeps)
 
   pub is_holds : (name lasso : List ℕ) (as_written : Bool) (spec : Spec) (w : LassoData) (s : ℕ) (t : List ℕ)
       → IsSpecOf texts name as_written spec → IsLassoOf texts lasso spec w → holds_at w spec.formula 0 ≡ true → s ≡ 0 → t ≡ codes "HOLDS" ++ codes "\n"
@@ -56,6 +60,7 @@ module _ (texts : Option Texts) where
   is_fails name lasso as_written spec w s t of under is h k = answer_as _ s _ t _ h k (fails name lasso as_written spec w of under is)
 
   pub is_generated : (clients workers : ℕ) (spec : Spec) (pair : Pair) (v : Verdict) (s : ℕ) (t : List ℕ)
-      → IsSpec (arbiter_text clients) false spec → IsVerdict pair spec.names (bounds_of (0, 1, 8)) v → s ≡ 0 → t ≡ arbiter_text clients ++ verdict_comment v
+      → IsSpec (arbiter_text clients) false spec → IsPairOf spec.formula pair → IsVerdict pair spec.names (bounds_of (0, 1, 8)) v → s ≡ 0 → t ≡ arbiter_text clients ++ verdict_comment v
       → IsAnswer texts (gen clients workers) s t
-  is_generated clients workers spec pair v s t of is h k = answer_as _ s _ t _ h k (generated clients workers spec pair v of is)
+  is_generated clients workers spec pair v s t of are is h k =
+      answer_as _ s _ t _ h k (generated clients workers spec pair v of are is (satisfied spec.formula pair spec.names (bounds_of (0, 1, 8)) v are is) (alone spec.formula pair spec.names (bounds_of (0, 1, 8)) v are is))

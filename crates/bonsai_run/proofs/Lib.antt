@@ -1,4 +1,6 @@
 mod Answering
 mod Appends
+mod Fetches
 mod Names
+mod Satisfied
 mod Trying

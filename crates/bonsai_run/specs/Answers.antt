@@ -7,12 +7,15 @@ use Rattle.word_core.specs.declared.names.Names.{Names}
 use Rattle.word_core.specs.Automaton.{AutomatonData}
 use Rattle.word_core.specs.Lasso.{LassoData}
 use Rattle.word_core.specs.Machine.{MachineData}
+use Rattle.word_core.specs.Play.{IsLassoPlay}
 use Rattle.word_core.specs.Run.{Keeps}
 use Rattle.dual_game.specs.declared.bounds.Bounds.{Bounds}
 use Rattle.dual_game.specs.declared.games.Pair.{Pair}
 use Rattle.dual_game.specs.Bounds.{IsTried}
-use Rattle.dual_game.specs.Winning.{IsMachineFor, NobodyWins, automaton_of}
+use Rattle.dual_game.specs.Automata.{avoided, IsAutomatonOf, IsPairOf}
+use Rattle.dual_game.specs.Winning.{IsMachineFor, Wins, NobodyWins, automaton_of}
 use Rattle.shelf_io.specs.Texts.{Texts}
+use Rattle.ltl_form.specs.declared.formulas.Ltl.{Ltl}
 use Rattle.ltl_form.specs.Meaning.{holds_at}
 use Rattle.tlsf_basic.specs.declared.specifications.Spec.{Spec}
 use Rattle.tlsf_basic.specs.Specification.{IsSpec}
@@ -82,6 +85,21 @@ IsVerdict pair names bounds (Won bound machine) =
     × IsMachineFor names machine.player machine × Keeps (automaton_of pair machine.player) machine bound
 IsVerdict pair names bounds (Unknown bound) = (bound ≡ bounds.last) × ((k : ℕ) → IsTried bounds k → NobodyWins pair names k)
 
+-- on each lasso that the machine of a verdict plays the formula holds for the system, and fails for the environment
+abbrev pub IsSatisfied : Ltl → Verdict → Type 0
+IsSatisfied f (Won bound machine) = (w : LassoData) → 0 < length w.cycle → IsLassoPlay machine w → avoided machine.player (holds_at w f 0) ≡ false
+IsSatisfied f (Unknown bound) = Unit {0}
+
+abbrev pub other_player : Player → Player
+other_player System = Environment
+other_player Environment = System
+
+-- where a player wins, no machine of the other one keeps any bound
+abbrev pub IsAlone : Pair → Names → Verdict → Type 0
+IsAlone pair names (Won bound machine) =
+    (k : ℕ) → Wins (automaton_of pair (other_player machine.player)) names (other_player machine.player) k → ⊥
+IsAlone pair names (Unknown bound) = Unit {0}
+
 -- the bounds of an order
 abbrev pub bounds_of : ℕ × ℕ × ℕ → Bounds
 bounds_of b = record { first = b.0; step = b.1; last = b.2 }
@@ -106,16 +124,18 @@ IsWord status word a = (a.status ≡ status) × (a.text.items ≡ word ++ codes 
 -- what an order is answered, where the shelf has these texts: a status and a text
 pub data IsAnswer (texts : Option Texts) : Asked → ℕ → List ℕ → Type 0 where
   decided : (name : List ℕ) (bounds : ℕ × ℕ × ℕ) (workers : ℕ) (as_written : Bool) (spec : Spec) (pair : Pair) (v : Verdict)
-      → IsSpecOf texts name as_written spec → IsVerdict pair spec.names (bounds_of bounds) v
+      → IsSpecOf texts name as_written spec → IsPairOf spec.formula pair → IsVerdict pair spec.names (bounds_of bounds) v
+      → IsSatisfied spec.formula v → IsAlone pair spec.names v
       → IsAnswer texts (synth name bounds workers as_written) (verdict_of v) (verdict_text spec.names v)
   held : (name : List ℕ) (player : Player) (bound : ℕ) (as_written : Bool) (spec : Spec) (a : AutomatonData) (g : GameData) (vectors : List (List ℤ))
-      → IsSpecOf texts name as_written spec → IsGameOf a spec.names player bound g → HasHeld g vectors
+      → IsSpecOf texts name as_written spec → IsAutomatonOf spec.formula player a → IsGameOf a spec.names player bound g → HasHeld g vectors
       → IsAnswer texts (downset name player bound as_written) 0 (downset_text player bound (lanes g) vectors)
   valid : (name machine : List ℕ) (bound : ℕ) (as_written : Bool) (spec : Spec) (text : List ℕ) (m : MachineData) (a : AutomatonData)
-      → IsSpecOf texts name as_written spec → IsUnder texts machine text → Keeps a m bound
+      → IsSpecOf texts name as_written spec → IsUnder texts machine text → IsAutomatonOf spec.formula m.player a → Keeps a m bound
+      → ((w : LassoData) → 0 < length w.cycle → IsLassoPlay m w → avoided m.player (holds_at w spec.formula 0) ≡ false)
       → IsAnswer texts (check name machine bound as_written) 0 (codes "VALID\n")
   over : (name machine : List ℕ) (bound : ℕ) (as_written : Bool) (spec : Spec) (text : List ℕ) (m : MachineData) (a : AutomatonData)
-      → IsSpecOf texts name as_written spec → IsUnder texts machine text → (Keeps a m bound → ⊥)
+      → IsSpecOf texts name as_written spec → IsUnder texts machine text → IsAutomatonOf spec.formula m.player a → (Keeps a m bound → ⊥)
       → IsAnswer texts (check name machine bound as_written) 40 (codes "OVER\n")
   holds : (name lasso : List ℕ) (as_written : Bool) (spec : Spec) (w : LassoData)
       → IsSpecOf texts name as_written spec → IsLassoOf texts lasso spec w → holds_at w spec.formula 0 ≡ true
@@ -124,5 +144,6 @@ pub data IsAnswer (texts : Option Texts) : Asked → ℕ → List ℕ → Type 0
       → IsSpecOf texts name as_written spec → IsLassoOf texts lasso spec w → holds_at w spec.formula 0 ≡ false
       → IsAnswer texts (eval name lasso as_written) 40 (codes "FAILS\n")
   generated : (clients workers : ℕ) (spec : Spec) (pair : Pair) (v : Verdict)
-      → IsSpec (arbiter_text clients) false spec → IsVerdict pair spec.names (bounds_of (0, 1, 8)) v
+      → IsSpec (arbiter_text clients) false spec → IsPairOf spec.formula pair → IsVerdict pair spec.names (bounds_of (0, 1, 8)) v
+      → IsSatisfied spec.formula v → IsAlone pair spec.names v
       → IsAnswer texts (gen clients workers) 0 (arbiter_text clients ++ verdict_comment v)

@@ -2,6 +2,7 @@
 
 ghost use Rattle.std.specs.Prelude.{◌≡◌, ◌≤◌, true, false, IfOk, IfErr};
 ghost use Rattle.dual_game.specs.declared.games.Pair.{Pair};
+ghost use Rattle.dual_game.specs.Automata.{IsPairOf};
 ghost use Rattle.dual_game.specs.Bounds.{AreBounds};
 ghost use Rattle.dual_game.specs.Winning.{Decides, with_bound};
 ghost use Rattle.game_form.specs.Covering.{CoversLetters};
@@ -41,7 +42,7 @@ pub fn decide(alloc: Global, spec: &Spec, bounds: Bounds) -> Result<Verdict, Fau
     requires last { bounds.last ≤ 10000 }
     requires few { signal_count spec.now.names ≤ 40 }
     requires numbered { signals_below (signal_count spec.now.names) spec.now.formula ≡ true }
-    ensures verdict { IfOk result (λ v. (pair : Pair) × IsVerdict pair spec.now.names bounds v) }
+    ensures verdict { IfOk result (λ v. (pair : Pair) × IsPairOf spec.now.formula pair × IsVerdict pair spec.now.names bounds v) }
     ensures fault { IfErr result IsLimit }
 {
     let pair = automata(alloc, spec)?;

@@ -3,7 +3,8 @@ use Rattle.std.proofs.Common.{◌≡◌, ℕ, zero, suc, ◌+◌, ◌*◌, ◌/�
 use Rattle.std.specs.Prelude.{bit_and, bit_or, All}
 use Rattle.std.specs.Int.{bit_at}
 use Rattle.std.specs.Int.RustNames.{count_ones}
-use Rattle.std.proofs.lemmas.Nat.{and_block, or_block, ones_cat, div-add-mod', mod_below, or_lt, same_from_place, or_comm, and_le_l, one_shl, ones_le_self}
+use Rattle.std.proofs.lemmas.Bool.{eqb-false, eqb-true, ne_eqb}
+use Rattle.std.proofs.lemmas.Nat.{and_block, or_block, ones_cat, div-add-mod', mod_below, or_lt, same_from_place, or_comm, and_le_l, one_shl, ones_le_self, le_or_l, le_or_r}
 use Rattle.std.proofs.lemmas.Nat.Bits.{shr_and_one, bit_at-zero, bit_at_cat_low, bit_at_cat_high, bit_at_or, same_from_bits, bit_at-pow_same, bit_at-pow_other}
 use Rattle.std.proofs.lemmas.List.{get_or-set_same, get_or-set_other, get_or_past, length-set, drop_more, drop_all}
 use Rattle.std.proofs.lemmas.List.Elements.{All-head, All-tail, All-set}
@@ -238,24 +239,37 @@ pub part_end : (xs ys : List ℕ) (i : ℕ) (all : Bool) → length xs ≡ 8 →
 part_end xs ys i all f g l h =
     sym (ap (λ a. is_part a (joined (drop i ys))) (no_words xs i f l) ∙ ap (is_part 0) (no_words ys i g l)) ∙ h
 
-pub meet_on : (xs ys : List ℕ) (i : ℕ) (all : Bool) → (length xs ≡ 8) × IsFit xs → (length ys ≡ 8) × IsFit ys → i < 8
-    → nat_eq (bit_and (joined (drop i xs)) (joined (drop i ys))) 0 ≡ all → bit_and (get_or xs i 0) (get_or ys i 0) ≡ 0
-    → nat_eq (bit_and (joined (drop (i + 1) xs)) (joined (drop (i + 1) ys))) 0 ≡ all
-meet_on xs ys i all f g l h e =
-    let t : nat_eq (bit_and (get_or xs i 0) (get_or ys i 0)) 0 ≡ true = grind arith in
-    sym (meet_more xs ys i f g l ∙ ap (λ b. cond b (nat_eq (bit_and (joined (drop (i + 1) xs)) (joined (drop (i + 1) ys))) 0) false) t) ∙ h
+or_none : (a b : ℕ) → nat_eq (bit_or a b) 0 ≡ cond (nat_eq a 0) (nat_eq b 0) false
+or_none a b = go (nat_eq a 0) (nat_eq b 0) refl refl
+  where
+    go : (x y : Bool) → nat_eq a 0 ≡ x → nat_eq b 0 ≡ y → nat_eq (bit_or a b) 0 ≡ cond x y false
+    go true true h k = ap (λ z. nat_eq (bit_or z b) 0) (eqb-true a 0 h) ∙ ap (λ z. nat_eq (bit_or 0 z) 0) (eqb-true b 0 k)
+    go true false h k = let l = le_or_r a b in let n = eqb-false b 0 k in ne_eqb (bit_or a b) 0 (λ (e : bit_or a b ≡ 0). n (omega arith))
+    go false y h k = let l = le_or_l a b in let n = eqb-false a 0 h in ne_eqb (bit_or a b) 0 (λ (e : bit_or a b ≡ 0). n (omega arith))
 
-pub meet_off : (xs ys : List ℕ) (i : ℕ) (all : Bool) → (length xs ≡ 8) × IsFit xs → (length ys ≡ 8) × IsFit ys → i < 8
-    → nat_eq (bit_and (joined (drop i xs)) (joined (drop i ys))) 0 ≡ all → (bit_and (get_or xs i 0) (get_or ys i 0) ≡ 0 → ⊥)
-    → true ≡ not all
-meet_off xs ys i all f g l h e =
-    let t : nat_eq (bit_and (get_or xs i 0) (get_or ys i 0)) 0 ≡ false = grind arith in
-    ap not (sym (meet_more xs ys i f g l ∙ ap (λ b. cond b (nat_eq (bit_and (joined (drop (i + 1) xs)) (joined (drop (i + 1) ys))) 0) false) t) ∙ h)
+cond_turn : (a b c : Bool) → cond (cond a b false) c false ≡ cond a (cond b c false) false
+cond_turn true b c = refl
+cond_turn false b c = refl
 
-pub meet_end : (xs ys : List ℕ) (i : ℕ) (all : Bool) → length xs ≡ 8 → length ys ≡ 8 → 8 ≤ i
-    → nat_eq (bit_and (joined (drop i xs)) (joined (drop i ys))) 0 ≡ all → false ≡ not all
-meet_end xs ys i all f g l h =
-    ap not (sym (ap (λ a. nat_eq (bit_and a (joined (drop i ys))) 0) (no_words xs i f l) ∙ ap (λ b. nat_eq (bit_and 0 b) 0) (no_words ys i g l)) ∙ h)
+pub meet_on : (xs ys : List ℕ) (i shared : ℕ) (all : Bool) → (length xs ≡ 8) × IsFit xs → (length ys ≡ 8) × IsFit ys → i < 8
+    → cond (nat_eq shared 0) (nat_eq (bit_and (joined (drop i xs)) (joined (drop i ys))) 0) false ≡ all
+    → cond (nat_eq (bit_or shared (bit_and (get_or xs i 0) (get_or ys i 0))) 0) (nat_eq (bit_and (joined (drop (i + 1) xs)) (joined (drop (i + 1) ys))) 0) false ≡ all
+meet_on xs ys i shared all f g l h =
+    ap (λ b. cond b (nat_eq (bit_and (joined (drop (i + 1) xs)) (joined (drop (i + 1) ys))) 0) false) (or_none shared (bit_and (get_or xs i 0) (get_or ys i 0)))
+    ∙ cond_turn (nat_eq shared 0) (nat_eq (bit_and (get_or xs i 0) (get_or ys i 0)) 0) (nat_eq (bit_and (joined (drop (i + 1) xs)) (joined (drop (i + 1) ys))) 0)
+    ∙ ap (λ b. cond (nat_eq shared 0) b false) (sym (meet_more xs ys i f g l))
+    ∙ h
+
+pub meet_end : (xs ys : List ℕ) (i shared : ℕ) (all : Bool) → length xs ≡ 8 → length ys ≡ 8 → 8 ≤ i
+    → cond (nat_eq shared 0) (nat_eq (bit_and (joined (drop i xs)) (joined (drop i ys))) 0) false ≡ all → not (nat_eq shared 0) ≡ not all
+meet_end xs ys i shared all f g l h =
+    ap not (alone (nat_eq shared 0)
+    ∙ sym (ap (λ b. cond (nat_eq shared 0) b false) (ap (λ a. nat_eq (bit_and a (joined (drop i ys))) 0) (no_words xs i f l) ∙ ap (λ b. nat_eq (bit_and 0 b) 0) (no_words ys i g l)))
+    ∙ h)
+  where
+    alone : (b : Bool) → b ≡ cond b true false
+    alone true = refl
+    alone false = refl
 
 pub size_end : (xs ys : List ℕ) (i size all : ℕ) → length xs ≡ 8 → length ys ≡ 8 → 8 ≤ i
     → size + count_ones (bit_or (joined (drop i xs)) (joined (drop i ys))) ≡ all → size ≡ all

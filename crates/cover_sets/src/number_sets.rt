@@ -52,12 +52,11 @@ impl NumberSet {
     pub fn meets(&self, other: &NumberSet) -> bool
         ensures { result ≡ not (nat_eq (bit_and (joined self.now.words) (joined other.now.words)) 0) }
     {
+        let mut shared = 0;
         for i in 0..8 {
-            if self.words[i] & other.words[i] != 0 {
-                return true;
-            }
+            shared |= self.words[i] & other.words[i];
         }
-        false
+        shared != 0
     }
 
     /// Whether each number of this set is in the other one.

@@ -1,7 +1,8 @@
+mod Avoiding
 mod Counted
 mod Decided
 mod Meeting
-mod OneWinner
+pub mod OneWinner
 mod Reached
 pub mod Tried
 mod Weaker

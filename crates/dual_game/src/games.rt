@@ -1,9 +1,14 @@
 //! The automata and games of a specification.
 
-ghost use Rattle.std.specs.Prelude.{◌≡◌, ℕ, ◌≤◌, IfOk, true};
+ghost use Rattle.std.specs.Prelude.{◌≡◌, ℕ, ◌<◌, ◌≤◌, IfOk, true};
+ghost use Rattle.word_core.specs.Lasso.{LassoData, size};
+ghost use Rattle.ltl_form.specs.Meaning.{holds_at, tree_holds};
+ghost use Rattle.ltl_form.specs.NodeTrees.{formula_at};
 ghost use Rattle.ltl_form.specs.Formula.{signals_below};
 ghost use Rattle.ltl_form.specs.Normal.{LiteralsBelow};
 ghost use Rattle.tlsf_basic.specs.Specification.{signal_count};
+ghost use Rattle.tableau_nba.specs.Acceptance.{AcceptsTruthOf};
+ghost use Rattle.dual_game.specs.Automata.{IsAutomatonOf, IsPairOf, avoided, avoids_truth};
 ghost use Rattle.dual_game.specs.Games.{kind_of, IsGameOf};
 
 use crate::errors::GameError;
@@ -36,6 +41,7 @@ pub fn automata(alloc: Global, s: &Spec) -> Result<Pair, GameError>
     requires numbered { signals_below (signal_count s.now.names) s.now.formula ≡ true }
     ensures system { IfOk result (λ p. p.system.signals ≡ signal_count s.now.names) }
     ensures environment { IfOk result (λ p. p.environment.signals ≡ signal_count s.now.names) }
+    ensures pair { IfOk result (IsPairOf s.now.formula) }
 {
     let negated = normal_of(alloc, s, Player::System)?;
     let positive = normal_of(alloc, s, Player::Environment)?;
@@ -49,7 +55,8 @@ pub fn automata(alloc: Global, s: &Spec) -> Result<Pair, GameError>
 pub fn automaton(alloc: Global, s: &Spec, player: Player) -> Result<Automaton, GameError>
     requires few { signal_count s.now.names ≤ 64 }
     requires numbered { signals_below (signal_count s.now.names) s.now.formula ≡ true }
-    ensures { IfOk result (λ a. a.signals ≡ signal_count s.now.names) }
+    ensures signals { IfOk result (λ a. a.signals ≡ signal_count s.now.names) }
+    ensures accepts { IfOk result (IsAutomatonOf s.now.formula player) }
 {
     let normal = normal_of(alloc, s, player)?;
     trimmed(alloc, &normal, signals_of(&s.names))
@@ -104,16 +111,28 @@ fn signals_of(names: &Names) -> u32
 pub fn normal_of(alloc: Global, s: &Spec, player: Player) -> Result<Normal, FormError>
     requires few { signal_count s.now.names ≤ 64 }
     requires numbered { signals_below (signal_count s.now.names) s.now.formula ≡ true }
-    ensures { IfOk result (λ f. LiteralsBelow (signal_count s.now.names) f.nodes) }
+    ensures literals { IfOk result (λ f. LiteralsBelow (signal_count s.now.names) f.nodes) }
+    ensures meaning { (w : LassoData) → 0 < size w → IfOk result (λ f. tree_holds w (formula_at f.nodes f.root) 0 ≡ avoided player (holds_at w s.now.formula 0)) }
 {
-    nnf(alloc, &s.formula, player == Player::Environment)
+    nnf(alloc, &s.formula, avoids_truth(player))
+}
+
+/// Whether a player must avoid that the formula holds, as the environment must. The system must avoid that it fails.
+fn avoids_truth(player: Player) -> bool
+    ensures { result ≡ avoids_truth player }
+{
+    match player {
+        Player::System => false,
+        Player::Environment => true,
+    }
 }
 
 /// The automaton of a normal form, without states that no accepting run needs.
 fn trimmed(alloc: Global, f: &Normal, signals: u32) -> Result<Automaton, GameError>
     requires literals { LiteralsBelow signals f.now.nodes }
     requires few { signals ≤ 64 }
-    ensures { IfOk result (λ a. a.signals ≡ signals) }
+    ensures signals { IfOk result (λ a. a.signals ≡ signals) }
+    ensures accepts { IfOk result (AcceptsTruthOf f.now.nodes f.now.root) }
 {
     let whole = tableau(alloc, f, signals)?;
     Ok(trim(alloc, &whole)?)

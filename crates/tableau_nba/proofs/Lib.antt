@@ -1,6 +1,12 @@
 pub mod CubeBits
+pub mod CubeTruth
 pub mod Edges
+pub mod Found
 pub mod Growing
+pub mod Lassos
+pub mod Meanings
 pub mod Ranges
+pub mod Rows
+pub mod Runs
 pub mod Spots
 pub mod Visits

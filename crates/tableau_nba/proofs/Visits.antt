@@ -47,17 +47,17 @@ walk_none : (walker : WalkData) (at : ℕ) (spots : List Spot) → walk walker 0
 unfolding walk
 walk_none walker at spots = refl
 
-some_within : (xs : List Spot) (i : ℕ) (x : Spot) → slice_get xs i ≡ Some x → i < length xs
+pub some_within : (xs : List Spot) (i : ℕ) (x : Spot) → slice_get xs i ≡ Some x → i < length xs
 some_within [] i x h = absurd cc
 some_within (y ∷ ys) zero x h = omega arith
 some_within (y ∷ ys) (suc i) x h = let r = some_within ys i x h in omega arith
 
-some_at : (xs : List Spot) (i : ℕ) (x : Spot) → slice_get xs i ≡ Some x → get_or xs i x ≡ x
+pub some_at : (xs : List Spot) (i : ℕ) (x : Spot) → slice_get xs i ≡ Some x → get_or xs i x ≡ x
 some_at [] i x h = refl
 some_at (y ∷ ys) zero x h = cc
 some_at (y ∷ ys) (suc i) x h = some_at ys i x h
 
-none_past : (xs : List Spot) (i : ℕ) → slice_get xs i ≡ None → length xs ≤ i
+pub none_past : (xs : List Spot) (i : ℕ) → slice_get xs i ≡ None → length xs ≤ i
 none_past [] i h = omega arith
 none_past (y ∷ ys) zero h = absurd cc
 none_past (y ∷ ys) (suc i) h = let r = none_past ys i h in omega arith

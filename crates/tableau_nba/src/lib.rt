@@ -2,9 +2,11 @@
 #![tactic(auto)]
 
 mod cubes;
+mod laws;
 mod lists;
 mod places;
 mod tableaux;
 mod walks;
 
+pub use laws::accepts_by_truth;
 pub use tableaux::{TableauError, tableau};

@@ -1,6 +1,7 @@
 //! The breadth-first walk from the whole formula.
 
 ghost use Rattle.std.specs.Prelude.{◌≡◌, ◌<◌, ◌≤◌, ◌+◌, length, List, All, IfOk, IfErr};
+ghost use Rattle.tableau_nba.specs.Acceptance.{AcceptsTruthOf};
 ghost use Rattle.tableau_nba.specs.Walks.{all_spots, automaton_in, found, Spot, too_many, too_wide, walk_data};
 ghost use Rattle.ltl_form.specs.Normal.{LiteralsBelow};
 ghost use Rattle.cover_sets.specs.declared.cover_lists.CoverError.TheVariants.{TooWide as Wide};
@@ -55,7 +56,7 @@ impl From<CoverError> for TableauError {
     }
 }
 
-/// The automaton that accepts the lassos on which `f` holds.
+/// The automaton that accepts exactly the lassos on which `f` holds.
 ///
 /// The literals of `f` are below `signals`, which is at most 64. TooWide and TooManyStates come exactly where the
 /// breadth-first walk meets a list of more than 1,024 covers, or a 4,097th state.
@@ -64,6 +65,7 @@ pub fn tableau(alloc: Global, f: &Normal, signals: u32) -> Result<Automaton, Tab
     requires signals { signals ≤ 64 }
     ensures signals { IfOk result (λ a. a.signals ≡ signals) }
     ensures value { IfOk result (λ a. (spots : List Spot) × (all_spots (walk_data f.now.nodes signals) f.now.root ≡ found spots) × (a ≡ automaton_in (walk_data f.now.nodes signals) spots)) }
+    ensures accepts { IfOk result (λ a. AcceptsTruthOf f.now.nodes f.now.root a) }
     ensures many { IfErr result (λ e. e ≡ TooManyStates → all_spots (walk_data f.now.nodes signals) f.now.root ≡ too_many) }
     ensures wide { IfErr result (λ e. e ≡ TooWide → all_spots (walk_data f.now.nodes signals) f.now.root ≡ too_wide) }
 {

@@ -1,5 +1,5 @@
 -- Reading gives Ok exactly on the texts of the grammar, with their values, and each fault exactly where it stands.
-use Rattle.std.proofs.Common.{◌≡◌, ℕ, zero, suc, ◌+◌, ◌≤◌, Bool, true, false, List, [], ◌∷◌, ◌++◌, length, drop, Result, Ok, Err, Option, Some, sym, refl, ap, ◌∙◌, subst, arith, append_assoc, append-nil, length-append}
+use Rattle.std.proofs.Common.{◌≡◌, ℕ, ◌+◌, ◌≤◌, Bool, true, false, List, [], ◌∷◌, ◌++◌, length, drop, Result, Ok, Err, Some, sym, refl, ap, ◌∙◌, subst, arith, append_assoc, append-nil, length-append}
 use Rattle.ltl_form.specs.declared.formulas.Ltl.{Ltl}
 use Rattle.tlsf_basic.specs.declared.faults.Part.{Part}
 use Rattle.tlsf_basic.specs.declared.faults.Part.TheVariants as part
@@ -10,7 +10,7 @@ use Rattle.tlsf_basic.specs.declared.mains.Sections.{Sections}
 use Rattle.tlsf_basic.specs.declared.symbols.Symbol.{Symbol}
 use Rattle.tlsf_basic.specs.declared.symbols.Symbol.TheVariants as s
 use Rattle.tlsf_basic.specs.declared.symbols.Lexeme.{Lexeme}
-use Rattle.tlsf_basic.specs.Reads.{Halt, Read, Past, ◌>>=◌, front, expected_by, expected, misplaced_by, misplaced, missing_by, missing}
+use Rattle.tlsf_basic.specs.Reads.{Halt, ◌>>=◌, front, expected_by, expected, misplaced_by, misplaced, missing_by, missing}
 use Rattle.tlsf_basic.specs.Marks.{mark, part_word, end, is_info, is_main, is_open_brace, is_close, is_close_brace}
 use Rattle.tlsf_basic.specs.Headings.{read_heading, heading_by, close_heading, read_items}
 use Rattle.tlsf_basic.specs.Mains.{read_main, read_parts, close_main, read_text}
@@ -20,7 +20,7 @@ use Rattle.tlsf_basic.specs.TextBegins.{BeginsHeading, at_info, BeginsMain, at_m
 use Rattle.tlsf_basic.specs.TextFaults.{LacksInHeading, no_info, no_semantics, no_target, LacksInMain, no_main, no_inputs, no_outputs, Lacks, in_first, in_later, Begins, IsLongest, IsNoText, LacksPart, EndsOperand, is_full, is_operator, IsKind, of_full, of_missing, of_operator, of_other, IsGrammarFault, bad_token, deep_token}
 use Rattle.tlsf_basic.proofs.Good.{Alike, alike-self}
 use Rattle.tlsf_basic.proofs.Loops.{halt_of}
-use Rattle.tlsf_basic.proofs.Stopping.{ends_by, ends_operand, ends-last, Operand, Stop, not_expected, not_parenthesized, at_depth, lacking}
+use Rattle.tlsf_basic.proofs.Stopping.{ends_by, ends_operand, ends-last, not_expected, not_parenthesized, at_depth, lacking}
 use Rattle.tlsf_basic.proofs.MainGood.{sides}
 use Rattle.tlsf_basic.proofs.TextRead.{class_is_close_brace, heading_up_to, heading_read, main_up_to}
 use Rattle.tlsf_basic.proofs.TextGood.{TextStop, Halted, Outcome, outcome, text_read}
@@ -211,9 +211,9 @@ main_absent m v e = ap (λ q. q >>= mark is_open_brace >>= read_parts m >>= λ r
 not_front : (is : Symbol → Bool) (v : List Lexeme) → is s.End ≡ false → ((t : Lexeme) (r : List Lexeme) → v ≡ t ∷ r → is t.symbol ≡ true → ⊥) → is (front v) ≡ false
 not_front is [] no_end none = no_end
 not_front is (t ∷ r) no_end none = go (is t.symbol) refl where
-    go : (b : Bool) → is t.symbol ≡ b → is t.symbol ≡ false
-    go true e = absurd (none t r refl e)
-    go false e = e
+  go : (b : Bool) → is t.symbol ≡ b → is t.symbol ≡ false
+  go true e = absurd (none t r refl e)
+  go false e = e
 
 heading_fails : (m : ℕ) (w : List Lexeme) (e : Halt) → read_heading w ≡ Err e → read_text m w ≡ Err e
 unfolding read_text
@@ -257,8 +257,8 @@ module _ (w : List Lexeme) (f : TextFault) (v : List Lexeme) (is : read_text 256
 
   none_next : (p : List Lexeme) → p ≡ front_tokens → (t : Lexeme) (r : List Lexeme) → v ≡ t ∷ r → Begins (p ++ t ∷ []) → ⊥
   none_next p e t r ev b = no_list t (longest w f v is shallow (t ∷ []) r ev (subst (λ z. Begins (z ++ t ∷ [])) e b)) where
-      no_list : (t : Lexeme) → t ∷ [] ≡ [] → ⊥
-      no_list t e = absurd (omega (arith, ap length e))
+    no_list : (t : Lexeme) → t ∷ [] ≡ [] → ⊥
+    no_list t e = absurd (omega (arith, ap length e))
 
   -- where a part is missing, that is the fault
   lack_fault : (which : Part) → LacksPart front_tokens v which → f ≡ missing which v
@@ -275,13 +275,13 @@ module _ (w : List Lexeme) (f : TextFault) (v : List Lexeme) (is : read_text 256
 
   no_lack_expected : is_full (front v) ≡ false → f ≡ Expected → (which : Part) → LacksPart front_tokens v which → ⊥
   no_lack_expected plain e which lack = clash which (sym e ∙ lack_plain which plain lack) where
-      clash : (which : Part) → Expected ≡ MissingPart which → ⊥
-      clash which e = cc
+    clash : (which : Part) → Expected ≡ MissingPart which → ⊥
+    clash which e = cc
 
   no_lack_parens : is_full (front v) ≡ false → f ≡ NeedsParens → (which : Part) → LacksPart front_tokens v which → ⊥
   no_lack_parens plain e which lack = clash which (sym e ∙ lack_plain which plain lack) where
-      clash : (which : Part) → NeedsParens ≡ MissingPart which → ⊥
-      clash which e = cc
+    clash : (which : Part) → NeedsParens ≡ MissingPart which → ⊥
+    clash which e = cc
 
   -- the fault as the relation has it
   kind_of_expected : (b : Bool) → is_full (front v) ≡ b → f ≡ expected v → ends_operand front_tokens ≡ false → IsKind front_tokens v f
@@ -322,8 +322,8 @@ module _ (w : List Lexeme) (f : TextFault) (v : List Lexeme) (is : read_text 256
 
   kind_operator_same : is_operator (front v) ≡ true → ((which : Part) → LacksPart front_tokens v which → ⊥) → EndsOperand front_tokens → TextStop 256 front_tokens f v → f ≡ NeedsParens
   kind_operator_same op none ends (not_expected b fault quiet) = absurd (clash (sym (operand_ends front_tokens ends) ∙ quiet)) where
-      clash : true ≡ false → ⊥
-      clash e = cc
+    clash : true ≡ false → ⊥
+    clash e = cc
   kind_operator_same op none ends (not_parenthesized b fault operand) = fault ∙ misplaced_operator (front v) op
   kind_operator_same op none ends (at_depth t rest b fault ev more) = absurd (shallow fault)
   kind_operator_same op none ends (lacking which b fault lack) = absurd (none which (256, lack))
@@ -377,20 +377,20 @@ only_text w x text = text_read 256 256 w x text (omega arith)
 -- a fault stands where the relation has it
 pub found_fault : (w : List Lexeme) (f : TextFault) (v : List Lexeme) → read_text 256 w ≡ Err (f, v) → IsGrammarFault w f v
 found_fault w f v is = go (depth_of p f v stop) where
-    p : List Lexeme
-    p = before w f v is
+  p : List Lexeme
+  p = before w f v is
 
-    stop : TextStop 256 p f v
-    stop = stopped w f v is
+  stop : TextStop 256 p f v
+  stop = stopped w f v is
 
-    go : Depth p f v → IsGrammarFault w f v
-    go (too_deep t rest fault ev more) =
-        subst (λ z. IsGrammarFault z f v) (sym (split_at w f v is))
-        (subst (λ z. IsGrammarFault (p ++ z) f z) (sym ev) (subst (λ z. IsGrammarFault (p ++ t ∷ rest) z (t ∷ rest)) (sym fault)
-        (deep_token p t rest (stop_begins stop, λ q r e b. longest_within w f v is q r (ev ∙ e) b) more)))
-    go (no_deeper sh) =
-        subst (λ z. IsGrammarFault z f v) (sym (split_at w f v is))
-        (bad_token p v f (stop_begins stop) ((256, stop_begins stop), λ q r e b. longest w f v is sh q r e b) (subst IsNoText (split_at w f v is) (no_text w f v is sh)) (kind_found w f v is sh stop))
+  go : Depth p f v → IsGrammarFault w f v
+  go (too_deep t rest fault ev more) =
+      subst (λ z. IsGrammarFault z f v) (sym (split_at w f v is))
+      (subst (λ z. IsGrammarFault (p ++ z) f z) (sym ev) (subst (λ z. IsGrammarFault (p ++ t ∷ rest) z (t ∷ rest)) (sym fault)
+      (deep_token p t rest (stop_begins stop, λ q r e b. longest_within w f v is q r (ev ∙ e) b) more)))
+  go (no_deeper sh) =
+      subst (λ z. IsGrammarFault z f v) (sym (split_at w f v is))
+      (bad_token p v f (stop_begins stop) ((256, stop_begins stop), λ q r e b. longest w f v is sh q r e b) (subst IsNoText (split_at w f v is) (no_text w f v is sh)) (kind_found w f v is sh stop))
 
 text_begins : (n : ℕ) (w : List Lexeme) (x : Text) → IsText n w x → BeginsText n w
 text_begins n w x (is_whole_text u v h all head main) = behind_heading u v h head (whole_main v all main)
@@ -407,43 +407,43 @@ same_place p v q r one two (no_longer x e k) =
 
 bad_only : (p v : List Lexeme) (f g : TextFault) (r : List Lexeme) → read_text 256 (p ++ v) ≡ Err (g, r) → IsLongest Begins p v → BeginsText 256 p → IsKind p v f → failed (g, r) ≡ failed (f, v)
 bad_only p v f g r is lon b kind = go (depth_of q g r stop) where
-    q : List Lexeme
-    q = before (p ++ v) g r is
+  q : List Lexeme
+  q = before (p ++ v) g r is
 
-    stop : TextStop 256 q g r
-    stop = stopped (p ++ v) g r is
+  stop : TextStop 256 q g r
+  stop = stopped (p ++ v) g r is
 
-    same : SamePlace p v q r
-    same = same_place p v q r
+  same : SamePlace p v q r
+  same = same_place p v q r
       (λ x e k. lon.1 x r k (256, subst (BeginsText 256) e (stop_begins stop)))
       (λ x e k. longest_within (p ++ v) g r is x v k (subst (BeginsText 256) e b))
       (compare p v q r (split_at (p ++ v) g r is))
 
-    go : Depth q g r → failed (g, r) ≡ failed (f, v)
-    go (too_deep t rest fault ev more) =
-        absurd (not_nil t [] (lon.1 (t ∷ []) rest (same.1 ∙ ev) (subst (λ z. Begins (z ++ t ∷ [])) (sym same.0) more)))
-    go (no_deeper sh) =
-        ap (λ z. Err (z, r)) (kind_same (p ++ v) g r is sh f (subst (λ z. IsKind z r f) same.0 (subst (λ z. IsKind p z f) same.1 kind)) stop)
-        ∙ ap (λ z. Err (f, z)) (sym same.1)
+  go : Depth q g r → failed (g, r) ≡ failed (f, v)
+  go (too_deep t rest fault ev more) =
+      absurd (not_nil t [] (lon.1 (t ∷ []) rest (same.1 ∙ ev) (subst (λ z. Begins (z ++ t ∷ [])) (sym same.0) more)))
+  go (no_deeper sh) =
+      ap (λ z. Err (z, r)) (kind_same (p ++ v) g r is sh f (subst (λ z. IsKind z r f) same.0 (subst (λ z. IsKind p z f) same.1 kind)) stop)
+      ∙ ap (λ z. Err (f, z)) (sym same.1)
 
 deep_only : (p : List Lexeme) (t : Lexeme) (v : List Lexeme) (g : TextFault) (r : List Lexeme) → read_text 256 (p ++ t ∷ v) ≡ Err (g, r) → IsLongest (BeginsText 256) p (t ∷ v) → Begins (p ++ t ∷ []) → failed (g, r) ≡ failed (TooDeep, t ∷ v)
 deep_only p t v g r is lon more = go (depth_of q g r stop) where
-    q : List Lexeme
-    q = before (p ++ t ∷ v) g r is
+  q : List Lexeme
+  q = before (p ++ t ∷ v) g r is
 
-    stop : TextStop 256 q g r
-    stop = stopped (p ++ t ∷ v) g r is
+  stop : TextStop 256 q g r
+  stop = stopped (p ++ t ∷ v) g r is
 
-    same : SamePlace p (t ∷ v) q r
-    same = same_place p (t ∷ v) q r
+  same : SamePlace p (t ∷ v) q r
+  same = same_place p (t ∷ v) q r
       (λ x e k. lon.1 x r k (subst (BeginsText 256) e (stop_begins stop)))
       (λ x e k. longest_within (p ++ t ∷ v) g r is x (t ∷ v) k (subst (BeginsText 256) e lon.0))
       (compare p (t ∷ v) q r (split_at (p ++ t ∷ v) g r is))
 
-    go : Depth q g r → failed (g, r) ≡ failed (TooDeep, t ∷ v)
-    go (too_deep u rest fault ev more') = ap (λ z. Err (z, r)) fault ∙ ap (λ z. Err (TooDeep, z)) (sym same.1)
-    go (no_deeper sh) =
-        absurd (not_nil t [] (longest (p ++ t ∷ v) g r is sh (t ∷ []) v (sym same.1) (subst (λ z. Begins (z ++ t ∷ [])) same.0 more)))
+  go : Depth q g r → failed (g, r) ≡ failed (TooDeep, t ∷ v)
+  go (too_deep u rest fault ev more') = ap (λ z. Err (z, r)) fault ∙ ap (λ z. Err (TooDeep, z)) (sym same.1)
+  go (no_deeper sh) =
+      absurd (not_nil t [] (longest (p ++ t ∷ v) g r is sh (t ∷ []) v (sym same.1) (subst (λ z. Begins (z ++ t ∷ [])) same.0 more)))
 
 by_result : (w : List Lexeme) (f : TextFault) (v : List Lexeme) (x : Result Text Halt) → read_text 256 w ≡ x → IsGrammarFault w f v → x ≡ Err (f, v)
 by_result w f v (Ok y) is (bad_token p v' f' b lon none kind) = absurd (none 256 y (found_text w y is))

@@ -1,5 +1,5 @@
 -- The first lexeme that passes a test, found by a loop.
-use Rattle.std.proofs.Common.{◌≡◌, ℕ, ◌<◌, ◌≤◌, ◌+◌, Bool, true, false, not, List, [], ◌∷◌, ◌++◌, length, take, map, get_or, slice_get, string_bytes, encode_utf8_all, String, Some, sym, refl, ap, ◌∙◌, subst, arith}
+use Rattle.std.proofs.Common.{◌≡◌, ℕ, ◌<◌, ◌≤◌, ◌+◌, Bool, true, false, List, [], ◌∷◌, ◌++◌, length, take, map, get_or, slice_get, Some, sym, ap, ◌∙◌, subst, arith}
 use Rattle.std.specs.Prelude.{◌&&◌, filter}
 use Rattle.std.specs.List.{list_any}
 use Rattle.std.specs.Str.{bytes_eq}
@@ -17,12 +17,12 @@ module _ (test : List Lexeme → Lexeme → Bool) (w : List Lexeme) where
 
   pub none_more : (i : ℕ) (d : Lexeme) → NoneBelow i → test (take i w) (get_or w i d) ≡ false → NoneBelow (i + 1)
   none_more i d none here k m below e = go (dec_lt k i) where
-      go : Dec (k < i) → test (take k w) m ≡ false
-      go (yes before) = none k m before e
-      go (no past) =
-          let same : k ≡ i = omega (arith, below, past) in
-          subst (λ j. test (take j w) m ≡ false) (sym same)
-          (subst (λ x. test (take i w) x ≡ false) (get_or_from_slice_get w i m d (ap (slice_get w) (sym same) ∙ e)) here)
+    go : Dec (k < i) → test (take k w) m ≡ false
+    go (yes before) = none k m before e
+    go (no past) =
+        let same : k ≡ i = omega (arith, below, past) in
+        subst (λ j. test (take j w) m ≡ false) (sym same)
+        (subst (λ x. test (take i w) x ≡ false) (get_or_from_slice_get w i m d (ap (slice_get w) (sym same) ∙ e)) here)
 
   pub first_here : (i : ℕ) (d : Lexeme) → i < length w → NoneBelow i → test (take i w) (get_or w i d) ≡ true → IsFirst test w (get_or w i d)
   first_here i d below none here = (i, slice_get-get_or w i d below, here, none)

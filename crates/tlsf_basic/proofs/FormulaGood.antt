@@ -1,5 +1,5 @@
 -- What reading a formula gives is a formula, and where it stops the tokens before begin one.
-use Rattle.std.proofs.Common.{◌≡◌, ℕ, zero, suc, ◌<◌, ◌≤◌, Bool, true, false, List, [], ◌∷◌, ◌++◌, length, drop, Result, Ok, Err, Option, Some, sym, refl, ap, ◌∙◌, subst, arith, append_assoc, append-nil}
+use Rattle.std.proofs.Common.{◌≡◌, ℕ, zero, suc, ◌<◌, ◌≤◌, true, false, List, [], ◌∷◌, ◌++◌, length, drop, Ok, Err, Some, sym, refl, ap, ◌∙◌, subst, arith, append_assoc, append-nil}
 use Rattle.ltl_form.specs.declared.formulas.Ltl.{Ltl}
 use Rattle.ltl_form.specs.declared.formulas.Ltl.TheVariants as ltl
 use Rattle.tlsf_basic.specs.declared.faults.TextFault.{TextFault}
@@ -9,17 +9,17 @@ use Rattle.tlsf_basic.specs.declared.symbols.Lone.{Lone}
 use Rattle.tlsf_basic.specs.declared.symbols.Symbol.{Symbol}
 use Rattle.tlsf_basic.specs.declared.symbols.Symbol.TheVariants as s
 use Rattle.tlsf_basic.specs.declared.symbols.Lexeme.{Lexeme}
-use Rattle.tlsf_basic.specs.Reads.{Halt, Read, ◌>>=◌, front, expected, unexpected, misplaced_by, turns}
+use Rattle.tlsf_basic.specs.Reads.{Read, ◌>>=◌, front, misplaced_by}
 use Rattle.tlsf_basic.specs.Marks.{is_and, is_or, is_close, closing}
-use Rattle.tlsf_basic.specs.Formulas.{Deeper, atom_by, read_atom, read_prefixed, read_parens, unary_by, read_unary, one_more, read_conjuncts, all_by, read_all_from, read_all, read_disjuncts, any_by, read_any_from, read_implied, arrow_by, read_arrow_from, read_arrow, read_second, formula_by, read_formula, too_deep, nested}
+use Rattle.tlsf_basic.specs.Formulas.{Deeper, atom_by, read_atom, read_prefixed, read_parens, unary_by, read_unary, one_more, read_conjuncts, all_by, read_all_from, read_all, read_disjuncts, any_by, read_any_from, read_implied, arrow_by, read_arrow_from, read_arrow, read_second, formula_by, read_formula, nested}
 use Rattle.tlsf_basic.specs.Values.{with_unary, with_lone}
-use Rattle.tlsf_basic.specs.Grammar.{atom_value, all_of, any_of, IsUnary, is_atom, is_parens, is_prefixed, IsAnds, no_and, and_more, IsAll, is_all, IsOrs, no_or, or_more, IsAny, is_any, IsArrow, is_last, is_implied, IsFormula, is_arrow, is_lone}
-use Rattle.tlsf_basic.specs.Begins.{BeginsMark, no_mark, the_mark, BeginsUnary, nothing, atom_alone, in_parens, at_close, in_operand, BeginsAnds, whole_ands, in_and, BeginsAll, in_first, in_ands, BeginsOrs, whole_ors, in_or, BeginsAny, in_all, in_ors, BeginsArrow, in_any, in_right, BeginsFormula, in_arrow, in_second}
-use Rattle.tlsf_basic.proofs.Good.{Texts, Stops, Others, By, Passed, Good, Alike, weaker, behind_token, then, past-then, gives, map_value, at_unexpected, choose, IsOne, StopsAt, token, at_token}
-use Rattle.tlsf_basic.proofs.Loops.{run, loop, loop_once, Once, Looped}
+use Rattle.tlsf_basic.specs.Grammar.{atom_value, IsUnary, is_atom, is_parens, is_prefixed, IsAnds, no_and, and_more, IsAll, is_all, IsOrs, no_or, or_more, IsAny, is_any, IsArrow, is_last, is_implied, IsFormula, is_arrow, is_lone}
+use Rattle.tlsf_basic.specs.Begins.{no_mark, BeginsUnary, nothing, in_parens, at_close, in_operand, BeginsAnds, in_and, BeginsAll, in_first, in_ands, BeginsOrs, whole_ors, in_or, BeginsAny, in_all, in_ors, BeginsArrow, in_any, in_right, BeginsFormula, in_arrow, in_second}
+use Rattle.tlsf_basic.proofs.Good.{Texts, Stops, Others, By, Good, weaker, behind_token, then, past-then, gives, map_value, at_unexpected, choose, IsOne, StopsAt, at_token}
+use Rattle.tlsf_basic.proofs.Loops.{run, loop_once}
 use Rattle.tlsf_basic.proofs.FormulaOperand.{and_carried, or_carried, formula_operand}
-use Rattle.tlsf_basic.proofs.Lift.{lift_unary, lift_ands, lift_all, lift_ors, lift_any, lift_arrow, lift_formula}
-use Rattle.tlsf_basic.proofs.Stopping.{ends_by, ends_operand, ends-append, ends-last, Operand, no_lack, Stop, not_expected, not_parenthesized, at_depth, lacking, Carried, operand_behind, stop_behind, stop_within}
+use Rattle.tlsf_basic.proofs.Lift.{lift_unary, lift_all, lift_any}
+use Rattle.tlsf_basic.proofs.Stopping.{ends_by, ends_operand, ends-append, ends-last, Operand, no_lack, Stop, not_expected, not_parenthesized, at_depth, lacking, Carried, stop_behind, stop_within}
 
 abbrev pub StopOf : (ℕ → List Lexeme → Type 0) → ℕ → Stops
 StopOf B n = Stop no_lack B n
@@ -137,16 +137,19 @@ module _ (Fits : TextFault → Type 0) (n : ℕ) where
         (λ u a h. (u, refl, h)) (λ p f v h. (behind BeginsUnary BeginsAnds n t s.And is refl (λ m r le b. in_and [] [] t r no_and is b) p f v h, (t, p, refl))) (λ x q h. h) (at_unary ts))
 
     and_more_stop : (fs : List Ltl) (u : List Lexeme) (next : List Ltl) (p : List Lexeme) (f : TextFault) (v : List Lexeme) → AndTurn fs u next → AndStop p f v → AndStop (u ++ p) f v
-    and_more_stop fs u next p f v (g, e, t, w, eu, is, x) (stop, (t', p', filled)) =
-        (subst (λ y. StopOf BeginsAnds n (y ++ p) f v) (sym eu)
-        (subst (λ y. StopOf BeginsAnds n (t ∷ w ++ y) f v) (sym filled)
-        (behind_filled BeginsAnds BeginsAnds n (t ∷ w) t' p' f v (and_carried t w g is x) (subst (λ y. StopOf BeginsAnds n y f v) filled stop))),
-        (t, w ++ p, ap (λ y. y ++ p) eu))
+    and_more_stop fs u next p f v (g, e, t, w, eu, is, x) (stop, (t', p', filled)) = (
+      subst (λ y. StopOf BeginsAnds n (y ++ p) f v) (sym eu)
+          (subst (λ y. StopOf BeginsAnds n (t ∷ w ++ y) f v) (sym filled)
+          (behind_filled BeginsAnds BeginsAnds n (t ∷ w) t' p' f v (and_carried t w g is x) (subst (λ y. StopOf BeginsAnds n y f v) filled stop))),
+      (t, w ++ p, ap (λ y. y ++ p) eu),
+    )
 
     and_more_text : (fs : List Ltl) (u : List Lexeme) (next : List Ltl) (v : List Lexeme) (b : Ltl) → AndTurn fs u next → AndRest next v b → AndRest fs (u ++ v) b
-    and_more_text fs u next v b (g, e, t, w, eu, is, x) (gs, eb, y) =
-        (g ∷ gs, eb ∙ ap (λ z. ltl.All (z ++ gs)) e ∙ ap ltl.All (append_assoc fs (g ∷ []) gs),
-        subst (λ z. IsAnds n (z ++ v) (g ∷ gs)) (sym eu) (and_more t w v is x y))
+    and_more_text fs u next v b (g, e, t, w, eu, is, x) (gs, eb, y) = (
+      g ∷ gs,
+      eb ∙ ap (λ z. ltl.All (z ++ gs)) e ∙ ap ltl.All (append_assoc fs (g ∷ []) gs),
+      subst (λ z. IsAnds n (z ++ v) (g ∷ gs)) (sym eu) (and_more t w v is x y),
+    )
 
     abbrev and_close : List Ltl → List Lexeme → Read Ltl
     and_close fs x = Ok (ltl.All fs, x)
@@ -230,16 +233,19 @@ module _ (Fits : TextFault → Type 0) (n : ℕ) where
         (λ u a h. (u, refl, h)) (λ p f v h. (behind BeginsAll BeginsOrs n t s.Or is refl (λ m r le b. in_or [] [] t r no_or is b) p f v h, (t, p, refl))) (λ x q h. h) (at_all ts))
 
     or_more_stop : (fs : List Ltl) (u : List Lexeme) (next : List Ltl) (p : List Lexeme) (f : TextFault) (v : List Lexeme) → OrTurn fs u next → OrStop p f v → OrStop (u ++ p) f v
-    or_more_stop fs u next p f v (g, e, t, w, eu, is, x) (stop, (t', p', filled)) =
-        (subst (λ y. StopOf BeginsOrs n (y ++ p) f v) (sym eu)
-        (subst (λ y. StopOf BeginsOrs n (t ∷ w ++ y) f v) (sym filled)
-        (behind_filled BeginsOrs BeginsOrs n (t ∷ w) t' p' f v (or_carried t w g is x) (subst (λ y. StopOf BeginsOrs n y f v) filled stop))),
-        (t, w ++ p, ap (λ y. y ++ p) eu))
+    or_more_stop fs u next p f v (g, e, t, w, eu, is, x) (stop, (t', p', filled)) = (
+      subst (λ y. StopOf BeginsOrs n (y ++ p) f v) (sym eu)
+          (subst (λ y. StopOf BeginsOrs n (t ∷ w ++ y) f v) (sym filled)
+          (behind_filled BeginsOrs BeginsOrs n (t ∷ w) t' p' f v (or_carried t w g is x) (subst (λ y. StopOf BeginsOrs n y f v) filled stop))),
+      (t, w ++ p, ap (λ y. y ++ p) eu),
+    )
 
     or_more_text : (fs : List Ltl) (u : List Lexeme) (next : List Ltl) (v : List Lexeme) (b : Ltl) → OrTurn fs u next → OrRest next v b → OrRest fs (u ++ v) b
-    or_more_text fs u next v b (g, e, t, w, eu, is, x) (gs, eb, y) =
-        (g ∷ gs, eb ∙ ap (λ z. ltl.Any (z ++ gs)) e ∙ ap ltl.Any (append_assoc fs (g ∷ []) gs),
-        subst (λ z. IsOrs n (z ++ v) (g ∷ gs)) (sym eu) (or_more t w v is x y))
+    or_more_text fs u next v b (g, e, t, w, eu, is, x) (gs, eb, y) = (
+      g ∷ gs,
+      eb ∙ ap (λ z. ltl.Any (z ++ gs)) e ∙ ap ltl.Any (append_assoc fs (g ∷ []) gs),
+      subst (λ z. IsOrs n (z ++ v) (g ∷ gs)) (sym eu) (or_more t w v is x y),
+    )
 
     abbrev or_close : List Ltl → List Lexeme → Read Ltl
     or_close fs x = Ok (ltl.Any fs, x)
@@ -422,10 +428,11 @@ right_stop n w g t is x p f v stop =
 
 opened : (n : ℕ) (t : Lexeme) (u : List Lexeme) (a : Ltl) → t.symbol ≡ s.Open → IsFormula n u a → Opened (suc n) (t ∷ u) a
 opened n t u a is h =
-    let (q, x, g, e, y, open_) = formula_operand h in
-    ((λ c e. is_parens t c u is h e),
-    subst (λ z. BeginsUnary (suc n) (t ∷ z)) (append-nil u) (at_close a t u [] is h no_mark),
-    (t ∷ q, x, g, ap (λ z. t ∷ z) e, lift_unary y (suc n) (omega arith), λ o i. in_parens t (q ++ o ∷ []) is (open_ o i)))
+    let (q, x, g, e, y, open_) = formula_operand h in (
+      (λ c e. is_parens t c u is h e),
+      subst (λ z. BeginsUnary (suc n) (t ∷ z)) (append-nil u) (at_close a t u [] is h no_mark),
+      (t ∷ q, x, g, ap (λ z. t ∷ z) e, lift_unary y (suc n) (omega arith), λ o i. in_parens t (q ++ o ∷ []) is (open_ o i)),
+    )
 
 module _ (Fits : TextFault → Type 0) where
   -- the one reading has as many levels as the other, or the fault isn't that there are too few
@@ -435,8 +442,8 @@ module _ (Fits : TextFault → Type 0) where
     unary = λ t ts op is. out (λ u f. IsUnary zero u (with_unary op f)) (StopOf BeginsUnary zero) (λ d. d.unary) (λ w. refl) t ts (at_depth t ts nothing refl refl (in_operand t op [] is nothing));
     formula = λ t ts is. out (Opened zero) (StopOf BeginsUnary zero) (λ d. d.formula) (λ w. refl) t ts (at_depth t ts nothing refl refl (in_parens t [] is (in_arrow (in_any (in_all (in_first nothing))))));
     arrow = λ t ts is. out (Implied zero) (ImpliedStop zero) (λ d. d.arrow) (λ w. refl) t ts
-      (λ w g x. subst (λ z. StopOf BeginsArrow zero z TooDeep (t ∷ ts)) (sym (append-nil w))
-      (at_depth t ts (any_begins x) refl refl (in_right g w t [] (lift_any x 1 (omega arith)) is (in_any (in_all (in_first nothing))))));
+        (λ w g x. subst (λ z. StopOf BeginsArrow zero z TooDeep (t ∷ ts)) (sym (append-nil w))
+        (at_depth t ts (any_begins x) refl refl (in_right g w t [] (lift_any x 1 (omega arith)) is (in_any (in_all (in_first nothing))))));
   } where
     out : (T : Texts Ltl) (S : Stops) (pick : Deeper → List Lexeme → Read Ltl) → ((w : List Lexeme) → pick (nested zero) w ≡ Err (TooDeep, w)) → (t : Lexeme) (ts : List Lexeme) → S [] TooDeep (t ∷ ts) → Good Fits T S (By (pick (nested m))) (t ∷ ts) (Err (TooDeep, t ∷ ts))
     out T S pick none t ts stop = ([], refl, stop, λ f v al. ap (λ k. pick (nested k) v) (sym (fits f)) ∙ none v)
@@ -445,17 +452,17 @@ module _ (Fits : TextFault → Type 0) where
       let k = at_nested n m (omega (arith, le)) (λ f. let e : suc n ≡ suc m = fits f in omega (arith, e)) in
       record {
         unary = λ t ts op is. behind_token Fits (IsUnary n) (λ u f. IsUnary (suc n) u (with_unary op f)) (StopOf BeginsUnary n) (StopOf BeginsUnary (suc n)) (By (read_unary (nested m))) (By (λ x. read_unary (nested m) (drop 1 x))) t ts (read_unary (nested n) ts)
-          (λ u a h. is_prefixed t op u is h)
-          (λ p f v h. behind (Shifted BeginsUnary) BeginsUnary (suc n) t (s.Unary op) is refl (λ i r le b. subst (λ z. BeginsUnary z (t ∷ r)) (sym b.1) (in_operand t op r is b.2)) p f v (shift BeginsUnary n p f v h))
-          (λ x q h. h) (at_unary Fits n (nested n) (nested m) k ts);
+            (λ u a h. is_prefixed t op u is h)
+            (λ p f v h. behind (Shifted BeginsUnary) BeginsUnary (suc n) t (s.Unary op) is refl (λ i r le b. subst (λ z. BeginsUnary z (t ∷ r)) (sym b.1) (in_operand t op r is b.2)) p f v (shift BeginsUnary n p f v h))
+            (λ x q h. h) (at_unary Fits n (nested n) (nested m) k ts);
         formula = λ t ts is. behind_token Fits (IsFormula n) (Opened (suc n)) (StopOf BeginsFormula n) (StopOf BeginsUnary (suc n)) (By (read_formula (nested m))) (By (λ x. read_formula (nested m) (drop 1 x))) t ts (read_formula (nested n) ts)
-          (λ u a h. opened n t u a is h)
-          (λ p f v h. behind (Shifted BeginsFormula) BeginsUnary (suc n) t s.Open is refl (λ i r le b. subst (λ z. BeginsUnary z (t ∷ r)) (sym b.1) (in_parens t r is b.2)) p f v (shift BeginsFormula n p f v h))
-          (λ x q h. h) (at_formula Fits n (nested n) (nested m) k ts);
+            (λ u a h. opened n t u a is h)
+            (λ p f v h. behind (Shifted BeginsFormula) BeginsUnary (suc n) t s.Open is refl (λ i r le b. subst (λ z. BeginsUnary z (t ∷ r)) (sym b.1) (in_parens t r is b.2)) p f v (shift BeginsFormula n p f v h))
+            (λ x q h. h) (at_formula Fits n (nested n) (nested m) k ts);
         arrow = λ t ts is. behind_token Fits (IsArrow n) (Implied (suc n)) (StopOf BeginsArrow n) (ImpliedStop (suc n)) (By (read_arrow (nested m))) (By (λ x. read_arrow (nested m) (drop 1 x))) t ts (read_arrow (nested n) ts)
-          (λ u a h w f x. is_implied w t u x is h)
-          (λ p f v h w g x. right_stop n w g t is x p f v h)
-          (λ x q h. h) (at_arrow Fits n (nested n) (nested m) k ts);
+            (λ u a h w f x. is_implied w t u x is h)
+            (λ p f v h w g x. right_stop n w g t is x p f v h)
+            (λ x q h. h) (at_arrow Fits n (nested n) (nested m) k ts);
       }
 
   pub at_formula_of : (n m : ℕ) → n ≤ m → (Fits TooDeep → n ≡ m) → (w : List Lexeme) → Good Fits (IsFormula n) (StopOf BeginsFormula n) (By (read_formula (nested m))) w (read_formula (nested n) w)

@@ -1,5 +1,5 @@
 -- A formula ends with a whole operand, in whose place a `(` may stand.
-use Rattle.std.proofs.Common.{◌≡◌, ℕ, suc, ◌≤◌, List, [], ◌∷◌, ◌++◌, sym, refl, ap, ◌∙◌, subst, arith, append_assoc, append-nil}
+use Rattle.std.proofs.Common.{◌≡◌, ℕ, suc, List, [], ◌∷◌, ◌++◌, sym, refl, ap, ◌∙◌, subst, arith, append_assoc, append-nil}
 use Rattle.ltl_form.specs.declared.formulas.Ltl.{Ltl}
 use Rattle.tlsf_basic.specs.declared.symbols.Symbol.TheVariants as s
 use Rattle.tlsf_basic.specs.declared.symbols.Lexeme.{Lexeme}
@@ -56,12 +56,22 @@ module _ {n : ℕ} where
 pub arrow_operand : {n : ℕ} {w : List Lexeme} {f : Ltl} → IsArrow n w f → Operand BeginsArrow n w
 arrow_operand {n} {w} {f} (is_last x) = of_larger BeginsAny BeginsArrow w (λ m r. in_any) (any_operand w f x)
 arrow_operand (is_implied {n = n} {f = f} w t v x is y) =
-    let (q, u, g, e, z, open_) = arrow_operand y in
-    (w ++ t ∷ q, u, g, ap (λ r. w ++ t ∷ r) e ∙ sym (append_assoc w (t ∷ q) u), lift_unary z (suc n) (omega arith),
-    λ o h. subst (BeginsArrow (suc (suc n))) (sym (append_assoc w (t ∷ q) (o ∷ []))) (in_right f w t (q ++ o ∷ []) (lift_any x (suc (suc n)) (omega arith)) is (open_ o h)))
+    let (q, u, g, e, z, open_) = arrow_operand y in (
+      w ++ t ∷ q,
+      u,
+      g,
+      ap (λ r. w ++ t ∷ r) e ∙ sym (append_assoc w (t ∷ q) u),
+      lift_unary z (suc n) (omega arith),
+      λ o h. subst (BeginsArrow (suc (suc n))) (sym (append_assoc w (t ∷ q) (o ∷ []))) (in_right f w t (q ++ o ∷ []) (lift_any x (suc (suc n)) (omega arith)) is (open_ o h)),
+    )
 
 pub formula_operand : {n : ℕ} {w : List Lexeme} {f : Ltl} → IsFormula n w f → Operand BeginsFormula n w
 formula_operand {n} {w} {f} (is_arrow x) = of_larger BeginsArrow BeginsFormula w (λ m r. in_arrow) (arrow_operand x)
-formula_operand (is_lone {n = n} {f = f} {g = g} w t op v x is y) =
-    (w ++ t ∷ [], v, g, sym (append_assoc w (t ∷ []) v), y,
-    λ o h. subst (BeginsFormula (suc n)) (sym (append_assoc w (t ∷ []) (o ∷ []))) (in_second f w t op (o ∷ []) (lift_unary x (suc n) (omega arith)) is (opening o h)))
+formula_operand (is_lone {n = n} {f = f} {g = g} w t op v x is y) = (
+  w ++ t ∷ [],
+  v,
+  g,
+  sym (append_assoc w (t ∷ []) v),
+  y,
+  λ o h. subst (BeginsFormula (suc n)) (sym (append_assoc w (t ∷ []) (o ∷ []))) (in_second f w t op (o ∷ []) (lift_unary x (suc n) (omega arith)) is (opening o h)),
+)

@@ -1,12 +1,12 @@
 -- Each text of a formula is read as its value, where what stands behind it doesn't go on with the formula.
-use Rattle.std.proofs.Common.{◌≡◌, ℕ, zero, suc, ◌<◌, ◌≤◌, Bool, true, false, List, [], ◌∷◌, ◌++◌, length, drop, Result, Ok, Err, Option, Some, None, sym, refl, ap, ◌∙◌, subst, arith, append_assoc, append-nil, length-append}
+use Rattle.std.proofs.Common.{◌≡◌, ℕ, zero, suc, ◌≤◌, Bool, true, false, List, [], ◌∷◌, ◌++◌, length, Ok, Some, sym, refl, ap, ◌∙◌, arith, append_assoc, append-nil, length-append}
 use Rattle.std.proofs.lemmas.Option.{same_Some}
 use Rattle.ltl_form.specs.declared.formulas.Ltl.{Ltl}
 use Rattle.ltl_form.specs.declared.formulas.Ltl.TheVariants as ltl
 use Rattle.tlsf_basic.specs.declared.symbols.Symbol.{Symbol}
 use Rattle.tlsf_basic.specs.declared.symbols.Symbol.TheVariants as s
 use Rattle.tlsf_basic.specs.declared.symbols.Lexeme.{Lexeme}
-use Rattle.tlsf_basic.specs.Reads.{Halt, Read, ◌>>=◌, front, turns}
+use Rattle.tlsf_basic.specs.Reads.{Read, ◌>>=◌, front, turns}
 use Rattle.tlsf_basic.specs.Marks.{is_and, is_or, is_close, closing}
 use Rattle.tlsf_basic.specs.Formulas.{Deeper, atom_by, read_atom, read_prefixed, read_parens, unary_by, read_unary, one_more, read_conjuncts, all_by, read_all_from, read_all, read_disjuncts, any_by, read_any_from, read_implied, arrow_by, read_arrow_from, read_arrow, read_second, formula_by, read_formula, nested}
 use Rattle.tlsf_basic.specs.Values.{with_unary, with_lone}
@@ -153,9 +153,13 @@ started_formula d u f v past (g, r, e, k, l) = ap (λ q. q >>= λ r. formula_by 
 
 start_any : {n : ℕ} {b : List Lexeme} {fs : List Ltl} → IsOrs n b fs → (d : Deeper) (w : List Lexeme) (f : Ltl) (v : List Lexeme) → is_or (front v) ≡ false → Starts d (read_all_from d) w f (b ++ v) → OrsRead d fs b v → Starts d (read_any_from d) (w ++ b) (any_of f fs) v
 unfolding read_any_from
-start_any {b = b} ors d w f v past (g, r, e, k, l) reads =
-    (g, r, ap (read_unary d) (append_assoc w b v) ∙ e,
-    ap (λ q. q >>= λ r. any_by (front r.1) d r.0 r.1) k ∙ any_from_ors ors d f v past reads, λ h. l (no_lone_ors ors v h))
+start_any {b = b} ors d w f v past (g, r, e, k, l) reads = (
+  g,
+  r,
+  ap (read_unary d) (append_assoc w b v) ∙ e,
+  ap (λ q. q >>= λ r. any_by (front r.1) d r.0 r.1) k ∙ any_from_ors ors d f v past reads,
+  λ h. l (no_lone_ors ors v h),
+)
 
 start_last : (d : Deeper) (w : List Lexeme) (f : Ltl) (v : List Lexeme) → arrows (front v) ≡ false → Starts d (read_any_from d) w f v → Starts d (read_arrow_from d) w f v
 unfolding read_arrow_from
@@ -163,12 +167,15 @@ start_last d w f v past (g, r, e, k, l) = (g, r, e, ap (λ q. q >>= λ r. arrow_
 
 start_implied : (m : ℕ) (w : List Lexeme) (f g : Ltl) (t : Lexeme) (z v : List Lexeme) → t.symbol ≡ s.Arrow → Starts (nested (suc m)) (read_any_from (nested (suc m))) w f (t ∷ z ++ v) → read_arrow (nested m) (z ++ v) ≡ Ok (g, v) → Starts (nested (suc m)) (read_arrow_from (nested (suc m))) (w ++ t ∷ z) (ltl.Implies f g) v
 unfolding read_arrow_from read_implied nested
-start_implied m w f g t z v is (h, r, e, k, l) right =
-    (h, r, ap (read_unary (nested (suc m))) (append_assoc w (t ∷ z) v) ∙ e,
-    ap (λ q. q >>= λ r. arrow_by (front r.1) (nested (suc m)) r.0 r.1) k
-    ∙ ap (λ y. arrow_by y (nested (suc m)) f (t ∷ z ++ v)) is
-    ∙ ap (λ q. q >>= λ r. Ok (ltl.Implies f r.0, r.1)) right,
-    λ past. l (ap lones is))
+start_implied m w f g t z v is (h, r, e, k, l) right = (
+  h,
+  r,
+  ap (read_unary (nested (suc m))) (append_assoc w (t ∷ z) v) ∙ e,
+  ap (λ q. q >>= λ r. arrow_by (front r.1) (nested (suc m)) r.0 r.1) k
+      ∙ ap (λ y. arrow_by y (nested (suc m)) f (t ∷ z ++ v)) is
+      ∙ ap (λ q. q >>= λ r. Ok (ltl.Implies f r.0, r.1)) right,
+  λ past. l (ap lones is),
+)
 
 reads_lone : (d : Deeper) (w z v : List Lexeme) (f g : Ltl) (t : Lexeme) (op : _) → t.symbol ≡ s.Lone op → read_unary d (w ++ (t ∷ z ++ v)) ≡ Ok (f, t ∷ z ++ v) → read_unary d (z ++ v) ≡ Ok (g, v) → read_formula d ((w ++ t ∷ z) ++ v) ≡ Ok (with_lone op f g, v)
 unfolding read_formula read_second

@@ -1,5 +1,5 @@
 -- Reading from the front, and what it leaves: what is read is a text, where it stops the front begins one, and what stands behind the next token changes nothing.
-use Rattle.std.proofs.Common.{◌≡◌, ℕ, zero, suc, ◌<◌, ◌≤◌, Bool, true, false, cond, List, [], ◌∷◌, ◌++◌, length, drop, Result, Ok, Err, sym, refl, ap, ◌∙◌, subst, arith, append_assoc, append-nil, length-append}
+use Rattle.std.proofs.Common.{◌≡◌, Bool, true, false, cond, List, [], ◌∷◌, ◌++◌, drop, Ok, Err, sym, refl, ap, ◌∙◌, subst, append_assoc}
 use Rattle.tlsf_basic.specs.declared.faults.TextFault.{TextFault}
 use Rattle.tlsf_basic.specs.declared.symbols.Symbol.{Symbol}
 use Rattle.tlsf_basic.specs.declared.symbols.Symbol.TheVariants as s
@@ -73,14 +73,20 @@ module _ (Fits : TextFault → Type 0) where
   bind-go : {A B : Type 0} (O1 : Others A) (O2 : Others B) (T : Texts B) (S : Stops) (O : Others B) (u v w : List Lexeme) (a : A)
       → ((x y : List Lexeme) (q : Read B) → O1 x (Ok (a, y)) → O2 y q → O x q) → w ≡ u ++ v → ((x : List Lexeme) → Alike v x → O1 (u ++ x) (Ok (a, x)))
       → (r : Read B) → Good (λ x b. T (u ++ x) b) (λ p f z. S (u ++ p) f z) O2 v r → Good T S O w r
-  bind-go O1 O2 T S O u v w a join e l (Ok q) (x, d, text, m) =
-      (u ++ x, e ∙ ap (λ y. u ++ y) d ∙ sym (append_assoc u x q.1), text,
-      λ y al. subst (λ z. O z (Ok (q.0, y))) (sym (append_assoc u x y))
-      (join (u ++ (x ++ y)) (x ++ y) (Ok (q.0, y)) (l (x ++ y) (subst (λ z. Alike z (x ++ y)) (sym d) (alike-append x q.1 y al))) (m y al)))
-  bind-go O1 O2 T S O u v w a join e l (Err h) (x, d, stop, m) =
-      (u ++ x, e ∙ ap (λ y. u ++ y) d ∙ sym (append_assoc u x h.1), stop,
-      λ fits y al. subst (λ z. O z (Err (h.0, y))) (sym (append_assoc u x y))
-      (join (u ++ (x ++ y)) (x ++ y) (Err (h.0, y)) (l (x ++ y) (subst (λ z. Alike z (x ++ y)) (sym d) (alike-append x h.1 y al))) (m fits y al)))
+  bind-go O1 O2 T S O u v w a join e l (Ok q) (x, d, text, m) = (
+    u ++ x,
+    e ∙ ap (λ y. u ++ y) d ∙ sym (append_assoc u x q.1),
+    text,
+    λ y al. subst (λ z. O z (Ok (q.0, y))) (sym (append_assoc u x y))
+        (join (u ++ (x ++ y)) (x ++ y) (Ok (q.0, y)) (l (x ++ y) (subst (λ z. Alike z (x ++ y)) (sym d) (alike-append x q.1 y al))) (m y al)),
+  )
+  bind-go O1 O2 T S O u v w a join e l (Err h) (x, d, stop, m) = (
+    u ++ x,
+    e ∙ ap (λ y. u ++ y) d ∙ sym (append_assoc u x h.1),
+    stop,
+    λ fits y al. subst (λ z. O z (Err (h.0, y))) (sym (append_assoc u x y))
+        (join (u ++ (x ++ y)) (x ++ y) (Err (h.0, y)) (l (x ++ y) (subst (λ z. Alike z (x ++ y)) (sym d) (alike-append x h.1 y al))) (m fits y al)),
+  )
 
   -- one reading, and another of what it leaves
   pub bind : {A B : Type 0} (T1 : Texts A) (S1 : Stops) (O1 : Others A) (O2 : A → Others B) (T : Texts B) (S : Stops) (O : Others B) (w : List Lexeme)
@@ -180,10 +186,10 @@ module _ (Fits : TextFault → Type 0) (is : Symbol → Bool) (by : Symbol → T
 
   pub at_token : (w : List Lexeme) → Good Fits (IsOne is) (StopsAt is by) (Passed (token is by)) w (valued (token is by w))
   at_token [] = go (is s.End) no_end where
-      go : (b : Bool) → b ≡ false → Good Fits (IsOne is) (StopsAt is by) (Passed (token is by)) [] (valued (cond b (Ok []) (Err (by s.End, []))))
-      go true e = absurd (cc)
-      go false e = ([], refl, (refl, refl, no_end), λ fits v al. token_none v al)
+    go : (b : Bool) → b ≡ false → Good Fits (IsOne is) (StopsAt is by) (Passed (token is by)) [] (valued (cond b (Ok []) (Err (by s.End, []))))
+    go true e = absurd (cc)
+    go false e = ([], refl, (refl, refl, no_end), λ fits v al. token_none v al)
   at_token (t ∷ ts) = go (is t.symbol) refl where
-      go : (b : Bool) → is t.symbol ≡ b → Good Fits (IsOne is) (StopsAt is by) (Passed (token is by)) (t ∷ ts) (valued (cond b (Ok ts) (Err (by t.symbol, t ∷ ts))))
-      go true e = (t ∷ [], refl, (t, refl, e), λ v al. rw e refl)
-      go false e = ([], refl, (refl, refl, e), λ fits v al. token_other t ts v e al)
+    go : (b : Bool) → is t.symbol ≡ b → Good Fits (IsOne is) (StopsAt is by) (Passed (token is by)) (t ∷ ts) (valued (cond b (Ok ts) (Err (by t.symbol, t ∷ ts))))
+    go true e = (t ∷ [], refl, (t, refl, e), λ v al. rw e refl)
+    go false e = ([], refl, (refl, refl, e), λ fits v al. token_other t ts v e al)

@@ -1,5 +1,5 @@
 -- What reading the first part gives is one, and where it stops the tokens before begin one.
-use Rattle.std.proofs.Common.{◌≡◌, ℕ, zero, suc, ◌<◌, ◌≤◌, Bool, true, false, not, cond, List, [], ◌∷◌, ◌++◌, length, drop, Result, Ok, Err, Option, Some, None, sym, refl, ap, ◌∙◌, subst, arith, append_assoc, append-nil}
+use Rattle.std.proofs.Common.{◌≡◌, ℕ, ◌<◌, ◌≤◌, Bool, true, false, cond, List, [], ◌∷◌, ◌++◌, length, drop, Ok, Err, Option, Some, None, sym, refl, ap, ◌∙◌, subst, arith, append_assoc, append-nil}
 use Rattle.std.specs.Prelude.{is_some}
 use Rattle.word_core.specs.declared.names.Target.{Target}
 use Rattle.tlsf_basic.specs.declared.faults.Part.{Part}
@@ -12,17 +12,17 @@ use Rattle.tlsf_basic.specs.declared.headings.Heading.{Heading}
 use Rattle.tlsf_basic.specs.declared.symbols.Symbol.{Symbol}
 use Rattle.tlsf_basic.specs.declared.symbols.Symbol.TheVariants as s
 use Rattle.tlsf_basic.specs.declared.symbols.Lexeme.{Lexeme}
-use Rattle.tlsf_basic.specs.Reads.{Halt, Read, Past, ◌>>=◌, front, expected_by, expected, unexpected, missing, missing_by, passes, turns}
+use Rattle.tlsf_basic.specs.Reads.{Halt, Read, Past, ◌>>=◌, front, expected_by, expected, unexpected, missing, missing_by, passes}
 use Rattle.tlsf_basic.specs.Marks.{mark, part_word, in_braces, is_title, is_description, is_semantics, is_target, is_tags, is_colon, is_text, is_comma, is_kind, is_info, is_open_brace, is_close_brace, is_strict, is_name}
 use Rattle.tlsf_basic.specs.Headings.{read_string, kind_by, read_kind, strict_by, semantics_by, read_semantics, read_tags, read_title, read_description, read_tag_item, read_semantics_item, read_target_item, item_by, read_item, read_items, heading_by, close_heading, read_heading}
 use Rattle.tlsf_basic.specs.Values.{no_items}
 use Rattle.tlsf_basic.specs.Rows.{IsRow, BeginsRow}
 use Rattle.tlsf_basic.specs.TextGrammar.{IsSemantics, kind_alone, kind_first, strict_first, IsMoreTags, no_tag, tag_more, IsItem, is_title_item, is_description_item, is_semantics_item, is_target_item, is_tags_item, IsItems, no_item, item_more, IsHeading, is_heading}
-use Rattle.tlsf_basic.specs.TextBegins.{BeginsSemantics, in_kind_first, in_strict_first, BeginsItem, no_item_yet, in_title, in_description, at_semantics, in_semantics, in_target, at_tags, in_tags, BeginsItems, in_items, BeginsHeading, at_info, in_info, whole_heading}
+use Rattle.tlsf_basic.specs.TextBegins.{BeginsSemantics, in_kind_first, in_strict_first, BeginsItem, no_item_yet, in_title, in_description, at_semantics, in_semantics, in_target, at_tags, in_tags, BeginsItems, in_items, BeginsHeading, at_info, in_info}
 use Rattle.tlsf_basic.specs.TextFaults.{LacksInHeading, no_info, no_semantics, no_target}
-use Rattle.tlsf_basic.proofs.Good.{Texts, Stops, Others, By, Passed, valued, unvalued, Alike, Good, weaker, behind_token, then, past-then, past-past, past_value, once_each, gives, map_value, at_front, at_unexpected, choose, IsOne, StopsAt, token, at_token}
-use Rattle.tlsf_basic.proofs.Loops.{run, loop, Looped, bind_assoc, halt_of, by_valued, passes_run, from_valued}
-use Rattle.tlsf_basic.proofs.Stopping.{ends_by, ends_operand, ends-append, Operand, Lacks, no_lack, Stop, not_expected, not_parenthesized, at_depth, lacking, Carried, stop_behind}
+use Rattle.tlsf_basic.proofs.Good.{Texts, Stops, By, Passed, valued, Alike, Good, weaker, behind_token, then, past-then, past-past, past_value, once_each, gives, map_value, at_unexpected, choose, IsOne, StopsAt, at_token}
+use Rattle.tlsf_basic.proofs.Loops.{run, loop, bind_assoc, halt_of, by_valued, passes_run, from_valued}
+use Rattle.tlsf_basic.proofs.Stopping.{ends_operand, ends-append, Lacks, Stop, not_expected, lacking, Carried, stop_behind}
 use Rattle.tlsf_basic.proofs.RowFacts.{Class, Classes, title_class, description_class, semantics_class, target_class, tags_class, colon_class, text_class, comma_class, kind_class, strict_class, name_class, info_class, open_brace_class, close_brace_class, row_quiet, begins_row_quiet, RowStop, at_mark, at_pair}
 
 abbrev pub Quiet : List Lexeme → Type 0
@@ -128,9 +128,9 @@ module _ (Fits : TextFault → Type 0) where
   unfolding read_kind
   at_kind [] = ([], refl, (refl, refl), λ fits v al. no_kind v al)
   at_kind (t ∷ ts) = go t.symbol refl where
-      go : (y : Symbol) → t.symbol ≡ y → Good Fits KindText AtOnce (By read_kind) (t ∷ ts) (kind_by y t ts)
-      go (s.Kind kind) e = (t ∷ [], refl, (t, kind, refl, e, refl), λ v al. ap (λ y. kind_by y t v) e)
-      go y e = ([], refl, (refl, refl), λ fits v al. other_kind t ts (λ us. ap (λ y. kind_by y t us) e) v al)
+    go : (y : Symbol) → t.symbol ≡ y → Good Fits KindText AtOnce (By read_kind) (t ∷ ts) (kind_by y t ts)
+    go (s.Kind kind) e = (t ∷ [], refl, (t, kind, refl, e, refl), λ v al. ap (λ y. kind_by y t v) e)
+    go y e = ([], refl, (refl, refl), λ fits v al. other_kind t ts (λ us. ap (λ y. kind_by y t us) e) v al)
 
   -- `, Strict` behind a kind, or not
   strict-go : (u : List Lexeme) (k : Lexeme) (kind : Target) → u ≡ k ∷ [] → k.symbol ≡ s.Kind kind → (y : Symbol) (v : List Lexeme) → y ≡ front v → Good Fits (λ x b. SemanticsText (u ++ x) b) (λ p f z. SemanticsStop (u ++ p) f z) (By (strict_by y kind)) v (strict_by y kind v)
@@ -141,16 +141,16 @@ module _ (Fits : TextFault → Type 0) where
       (λ x b h. h) (λ p f z h. h) (λ x q h. h)
       (past_value Fits (IsOne is_strict) (λ x b. SemanticsText (u ++ c ∷ x) b) (StopsAt is_strict expected_by) (λ p f z. SemanticsStop (u ++ c ∷ p) f z) (mark is_strict) (record { kind = kind; strict = true }) cs (mark is_strict cs)
       (λ x h. text x h.0 h.1 h.2) (λ p f z h. stop p f z h.0 h.1) (at_mark Fits is_strict strict_class cs))
-      where
-        text : (x : List Lexeme) (t : Lexeme) → x ≡ t ∷ [] → is_strict t.symbol ≡ true → SemanticsText (u ++ c ∷ x) (record { kind = kind; strict = true })
-        text x t ex it =
-            let whole : IsSemantics (k ∷ c ∷ t ∷ []) (record { kind = kind; strict = true }) = kind_first k kind c t is (ap is_comma (sym e), (it, tt)) in
-            subst (λ q. SemanticsText (q ++ c ∷ x) (record { kind = kind; strict = true })) (sym eu) (subst (λ q. SemanticsText (k ∷ c ∷ q) (record { kind = kind; strict = true })) (sym ex) (whole, semantics_quiet (k ∷ c ∷ t ∷ []) (record { kind = kind; strict = true }) whole))
+    where
+      text : (x : List Lexeme) (t : Lexeme) → x ≡ t ∷ [] → is_strict t.symbol ≡ true → SemanticsText (u ++ c ∷ x) (record { kind = kind; strict = true })
+      text x t ex it =
+          let whole : IsSemantics (k ∷ c ∷ t ∷ []) (record { kind = kind; strict = true }) = kind_first k kind c t is (ap is_comma (sym e), (it, tt)) in
+          subst (λ q. SemanticsText (q ++ c ∷ x) (record { kind = kind; strict = true })) (sym eu) (subst (λ q. SemanticsText (k ∷ c ∷ q) (record { kind = kind; strict = true })) (sym ex) (whole, semantics_quiet (k ∷ c ∷ t ∷ []) (record { kind = kind; strict = true }) whole))
 
-        stop : (p : List Lexeme) (f : TextFault) (z : List Lexeme) → p ≡ [] → f ≡ expected z → SemanticsStop (u ++ c ∷ p) f z
-        stop p f z ep fault =
-            subst (λ q. SemanticsStop (q ++ c ∷ p) f z) (sym eu) (subst (λ q. SemanticsStop (k ∷ c ∷ q) f z) (sym ep)
-            (in_kind_first (k ∷ c ∷ []) (ap is_kind is, (ap is_comma (sym e), tt)), fault, begins_row_quiet (is_kind ∷ is_comma ∷ is_strict ∷ []) (kind_class, (comma_class, (strict_class, tt))) (k ∷ c ∷ []) (ap is_kind is, (ap is_comma (sym e), tt))))
+      stop : (p : List Lexeme) (f : TextFault) (z : List Lexeme) → p ≡ [] → f ≡ expected z → SemanticsStop (u ++ c ∷ p) f z
+      stop p f z ep fault =
+          subst (λ q. SemanticsStop (q ++ c ∷ p) f z) (sym eu) (subst (λ q. SemanticsStop (k ∷ c ∷ q) f z) (sym ep)
+          (in_kind_first (k ∷ c ∷ []) (ap is_kind is, (ap is_comma (sym e), tt)), fault, begins_row_quiet (is_kind ∷ is_comma ∷ is_strict ∷ []) (kind_class, (comma_class, (strict_class, tt))) (k ∷ c ∷ []) (ap is_kind is, (ap is_comma (sym e), tt))))
   strict-go u k kind eu is y v e =
       let whole : IsSemantics (k ∷ []) (record { kind = kind; strict = false }) = kind_alone k kind is in
       gives Fits (λ x b. SemanticsText (u ++ x) b) (λ p f z. SemanticsStop (u ++ p) f z) (record { kind = kind; strict = false }) v
@@ -176,15 +176,15 @@ module _ (Fits : TextFault → Type 0) where
       (λ x k m. text u x k h.0 h.1 h.2 m)
       (λ p f z m. subst (λ q. SemanticsStop (t ∷ q ++ p) f z) (sym h.1) (subst (λ q. SemanticsStop (t ∷ h.0 ∷ q) f z) (sym m.0) (stop (t ∷ h.0 ∷ []) f z (ap is_strict (sym is), (h.2, tt)) m.1)))
       (at_kind v)))
-      where
-        stop : (p : List Lexeme) (f : TextFault) (z : List Lexeme) → BeginsRow (is_strict ∷ is_comma ∷ is_kind ∷ []) p → f ≡ expected z → SemanticsStop p f z
-        stop p f z row fault = (in_strict_first p row, fault, begins_row_quiet (is_strict ∷ is_comma ∷ is_kind ∷ []) (strict_class, (comma_class, (kind_class, tt))) p row)
+    where
+      stop : (p : List Lexeme) (f : TextFault) (z : List Lexeme) → BeginsRow (is_strict ∷ is_comma ∷ is_kind ∷ []) p → f ≡ expected z → SemanticsStop p f z
+      stop p f z row fault = (in_strict_first p row, fault, begins_row_quiet (is_strict ∷ is_comma ∷ is_kind ∷ []) (strict_class, (comma_class, (kind_class, tt))) p row)
 
-        text : (u x : List Lexeme) (k : PlacedTarget) (c : Lexeme) → u ≡ c ∷ [] → is_comma c.symbol ≡ true → KindText x k → SemanticsText (t ∷ u ++ x) (record { kind = k.target; strict = true })
-        text u x k c eu ic (m, kind, ex, im, ek) =
-            let whole : IsSemantics (t ∷ c ∷ m ∷ []) (record { kind = kind; strict = true }) = strict_first t c m kind (ap is_strict (sym is), (ic, tt)) im in
-            subst (λ (y : Target). SemanticsText (t ∷ u ++ x) (record { kind = y; strict = true })) (sym (ap (λ r. r.target) ek))
-            (subst (λ q. SemanticsText (t ∷ q ++ x) (record { kind = kind; strict = true })) (sym eu) (subst (λ q. SemanticsText (t ∷ c ∷ q) (record { kind = kind; strict = true })) (sym ex) (whole, semantics_quiet (t ∷ c ∷ m ∷ []) (record { kind = kind; strict = true }) whole)))
+      text : (u x : List Lexeme) (k : PlacedTarget) (c : Lexeme) → u ≡ c ∷ [] → is_comma c.symbol ≡ true → KindText x k → SemanticsText (t ∷ u ++ x) (record { kind = k.target; strict = true })
+      text u x k c eu ic (m, kind, ex, im, ek) =
+          let whole : IsSemantics (t ∷ c ∷ m ∷ []) (record { kind = kind; strict = true }) = strict_first t c m kind (ap is_strict (sym is), (ic, tt)) im in
+          subst (λ (y : Target). SemanticsText (t ∷ u ++ x) (record { kind = y; strict = true })) (sym (ap (λ r. r.target) ek))
+          (subst (λ q. SemanticsText (t ∷ q ++ x) (record { kind = kind; strict = true })) (sym eu) (subst (λ q. SemanticsText (t ∷ c ∷ q) (record { kind = kind; strict = true })) (sym ex) (whole, semantics_quiet (t ∷ c ∷ m ∷ []) (record { kind = kind; strict = true }) whole)))
 
   semantics-go : (y : Symbol) (w : List Lexeme) → y ≡ front w → Good Fits SemanticsText SemanticsStop (By (semantics_by y)) w (semantics_by y w)
   semantics-go s.Strict w is = at_strict_first w is
@@ -258,27 +258,29 @@ module _ (Fits : TextFault → Type 0) where
       (λ y a more. text e u x y h.0 m.0 h.1 m.1 h.2 m.2 more)
       (λ p f r st. stop e u x p f r h.0 m.0 h.1 m.1 h.2 m.2 st)
       (λ y q o. o) (at_more_tags z))))))
-      where
-        head : is_tags t.symbol ≡ true
-        head = ap is_tags (sym is)
+    where
+      head : is_tags t.symbol ≡ true
+      head = ap is_tags (sym is)
 
-        classes : Classes (is_tags ∷ is_colon ∷ is_name ∷ [])
-        classes = (tags_class, (colon_class, (name_class, tt)))
+      classes : Classes (is_tags ∷ is_colon ∷ is_name ∷ [])
+      classes = (tags_class, (colon_class, (name_class, tt)))
 
-        row : i.tags ≡ false → (p : List Lexeme) (f : TextFault) (z : List Lexeme) → BeginsRow (is_tags ∷ is_colon ∷ is_name ∷ []) p → f ≡ expected z → ItemStop i p f z
-        row e p f z begun fault = (at_tags i p e begun, fault, begins_row_quiet (is_tags ∷ is_colon ∷ is_name ∷ []) classes p begun)
+      row : i.tags ≡ false → (p : List Lexeme) (f : TextFault) (z : List Lexeme) → BeginsRow (is_tags ∷ is_colon ∷ is_name ∷ []) p → f ≡ expected z → ItemStop i p f z
+      row e p f z begun fault = (at_tags i p e begun, fault, begins_row_quiet (is_tags ∷ is_colon ∷ is_name ∷ []) classes p begun)
 
-        text : i.tags ≡ false → (u x y : List Lexeme) (c m : Lexeme) → u ≡ c ∷ [] → x ≡ m ∷ [] → is_colon c.symbol ≡ true → is_name m.symbol ≡ true → IsMoreTags y → ItemText i (t ∷ u ++ (x ++ y)) (record i { tags = true })
-        text e u x y c m eu ex ic im more =
-            subst (λ q. ItemText i (t ∷ q ++ (x ++ y)) (record i { tags = true })) (sym eu) (subst (λ q. ItemText i (t ∷ c ∷ q ++ y) (record i { tags = true })) (sym ex)
-            (is_tags_item i t c m y e (head, (ic, (im, tt))) more, ends-append (t ∷ c ∷ m ∷ []) y (row_quiet (is_tags ∷ is_colon ∷ is_name ∷ []) classes (t ∷ c ∷ m ∷ []) (head, (ic, (im, tt)))) (tags_quiet y more)))
+      text : i.tags ≡ false → (u x y : List Lexeme) (c m : Lexeme) → u ≡ c ∷ [] → x ≡ m ∷ [] → is_colon c.symbol ≡ true → is_name m.symbol ≡ true → IsMoreTags y → ItemText i (t ∷ u ++ (x ++ y)) (record i { tags = true })
+      text e u x y c m eu ex ic im more =
+          subst (λ q. ItemText i (t ∷ q ++ (x ++ y)) (record i { tags = true })) (sym eu) (subst (λ q. ItemText i (t ∷ c ∷ q ++ y) (record i { tags = true })) (sym ex)
+          (is_tags_item i t c m y e (head, (ic, (im, tt))) more, ends-append (t ∷ c ∷ m ∷ []) y (row_quiet (is_tags ∷ is_colon ∷ is_name ∷ []) classes (t ∷ c ∷ m ∷ []) (head, (ic, (im, tt)))) (tags_quiet y more)))
 
-        stop : i.tags ≡ false → (u x p : List Lexeme) (f : TextFault) (r : List Lexeme) (c m : Lexeme) → u ≡ c ∷ [] → x ≡ m ∷ [] → is_colon c.symbol ≡ true → is_name m.symbol ≡ true → TagsStop tt p f r → ItemStop i (t ∷ u ++ (x ++ p)) f r
-        stop e u x p f r c m eu ex ic im (w, q, ep, more, begun, fault) =
-            subst (λ z. ItemStop i (t ∷ z ++ (x ++ p)) f r) (sym eu) (subst (λ z. ItemStop i (t ∷ c ∷ z ++ p) f r) (sym ex) (subst (λ z. ItemStop i (t ∷ c ∷ m ∷ z) f r) (sym ep)
-            (in_tags i t c m w q e (head, (ic, (im, tt))) more begun, fault,
+      stop : i.tags ≡ false → (u x p : List Lexeme) (f : TextFault) (r : List Lexeme) (c m : Lexeme) → u ≡ c ∷ [] → x ≡ m ∷ [] → is_colon c.symbol ≡ true → is_name m.symbol ≡ true → TagsStop tt p f r → ItemStop i (t ∷ u ++ (x ++ p)) f r
+      stop e u x p f r c m eu ex ic im (w, q, ep, more, begun, fault) =
+          subst (λ z. ItemStop i (t ∷ z ++ (x ++ p)) f r) (sym eu) (subst (λ z. ItemStop i (t ∷ c ∷ z ++ p) f r) (sym ex) (subst (λ z. ItemStop i (t ∷ c ∷ m ∷ z) f r) (sym ep) (
+            in_tags i t c m w q e (head, (ic, (im, tt))) more begun,
+            fault,
             ends-append (t ∷ c ∷ m ∷ []) (w ++ q) (row_quiet (is_tags ∷ is_colon ∷ is_name ∷ []) classes (t ∷ c ∷ m ∷ []) (head, (ic, (im, tt))))
-            (ends-append w q (tags_quiet w more) (begins_row_quiet (is_comma ∷ is_name ∷ []) (comma_class, (name_class, tt)) q begun)))))
+                (ends-append w q (tags_quiet w more) (begins_row_quiet (is_comma ∷ is_name ∷ []) (comma_class, (name_class, tt)) q begun)),
+          )))
 
   at_semantics_item : (i : Items) (w : List Lexeme) → s.Semantics ≡ front w → Good Fits (ItemText i) (ItemStop i) (By (read_semantics_item i)) w (read_semantics_item i w)
   unfolding read_semantics_item
@@ -297,12 +299,12 @@ module _ (Fits : TextFault → Type 0) where
       (λ p f z m. subst (λ q. ItemStop i (t ∷ q ++ p) f z) (sym h.1)
       (in_semantics i t h.0 p (none_of i.semantics e) (head, (h.2, tt)) m.0, m.1, ends-append (t ∷ h.0 ∷ []) p (row_quiet (is_semantics ∷ is_colon ∷ []) classes (t ∷ h.0 ∷ []) (head, (h.2, tt))) m.2))
       (at_semantics_text v))))
-      where
-        head : is_semantics t.symbol ≡ true
-        head = ap is_semantics (sym is)
+    where
+      head : is_semantics t.symbol ≡ true
+      head = ap is_semantics (sym is)
 
-        classes : Classes (is_semantics ∷ is_colon ∷ [])
-        classes = (semantics_class, (colon_class, tt))
+      classes : Classes (is_semantics ∷ is_colon ∷ [])
+      classes = (semantics_class, (colon_class, tt))
 
   at_target_item : (i : Items) (w : List Lexeme) → s.Target ≡ front w → Good Fits (ItemText i) (ItemStop i) (By (read_target_item i)) w (read_target_item i w)
   unfolding read_target_item
@@ -319,22 +321,22 @@ module _ (Fits : TextFault → Type 0) where
       (λ x b m. text e u x h.0 h.1 h.2 b m)
       (λ p f z m. subst (λ q. ItemStop i (t ∷ q ++ p) f z) (sym h.1) (subst (λ q. ItemStop i (t ∷ h.0 ∷ q) f z) (sym m.0) (stop e (t ∷ h.0 ∷ []) f z (head, (h.2, tt)) m.1)))
       (at_kind v))))
-      where
-        head : is_target t.symbol ≡ true
-        head = ap is_target (sym is)
+    where
+      head : is_target t.symbol ≡ true
+      head = ap is_target (sym is)
 
-        classes : Classes (is_target ∷ is_colon ∷ is_kind ∷ [])
-        classes = (target_class, (colon_class, (kind_class, tt)))
+      classes : Classes (is_target ∷ is_colon ∷ is_kind ∷ [])
+      classes = (target_class, (colon_class, (kind_class, tt)))
 
-        stop : is_some i.target ≡ false → (p : List Lexeme) (f : TextFault) (z : List Lexeme) → BeginsRow (is_target ∷ is_colon ∷ is_kind ∷ []) p → f ≡ expected z → ItemStop i p f z
-        stop e p f z begun fault = (in_target i p (none_of i.target e) begun, fault, begins_row_quiet (is_target ∷ is_colon ∷ is_kind ∷ []) classes p begun)
+      stop : is_some i.target ≡ false → (p : List Lexeme) (f : TextFault) (z : List Lexeme) → BeginsRow (is_target ∷ is_colon ∷ is_kind ∷ []) p → f ≡ expected z → ItemStop i p f z
+      stop e p f z begun fault = (in_target i p (none_of i.target e) begun, fault, begins_row_quiet (is_target ∷ is_colon ∷ is_kind ∷ []) classes p begun)
 
-        text : is_some i.target ≡ false → (u x : List Lexeme) (c : Lexeme) → u ≡ c ∷ [] → is_colon c.symbol ≡ true → (b : PlacedTarget) → KindText x b → ItemText i (t ∷ u ++ x) (record i { target = Some b })
-        text e u x c eu ic b (m, kind, ex, im, eb) =
-            subst (λ (z : PlacedTarget). ItemText i (t ∷ u ++ x) (record i { target = Some z })) (sym eb)
-            (subst (λ q. ItemText i (t ∷ q ++ x) (record i { target = Some (record { target = kind; place = m.from }) })) (sym eu)
-            (subst (λ q. ItemText i (t ∷ c ∷ q) (record i { target = Some (record { target = kind; place = m.from }) })) (sym ex)
-            (is_target_item i t c m kind (none_of i.target e) (head, (ic, tt)) im, row_quiet (is_target ∷ is_colon ∷ is_kind ∷ []) classes (t ∷ c ∷ m ∷ []) (head, (ic, (ap is_kind im, tt))))))
+      text : is_some i.target ≡ false → (u x : List Lexeme) (c : Lexeme) → u ≡ c ∷ [] → is_colon c.symbol ≡ true → (b : PlacedTarget) → KindText x b → ItemText i (t ∷ u ++ x) (record i { target = Some b })
+      text e u x c eu ic b (m, kind, ex, im, eb) =
+          subst (λ (z : PlacedTarget). ItemText i (t ∷ u ++ x) (record i { target = Some z })) (sym eb)
+          (subst (λ q. ItemText i (t ∷ q ++ x) (record i { target = Some (record { target = kind; place = m.from }) })) (sym eu)
+          (subst (λ q. ItemText i (t ∷ c ∷ q) (record i { target = Some (record { target = kind; place = m.from }) })) (sym ex)
+          (is_target_item i t c m kind (none_of i.target e) (head, (ic, tt)) im, row_quiet (is_target ∷ is_colon ∷ is_kind ∷ []) classes (t ∷ c ∷ m ∷ []) (head, (ic, (ap is_kind im, tt))))))
 
   item-go : (y : Symbol) (i : Items) (w : List Lexeme) → y ≡ front w → Good Fits (ItemText i) (ItemStop i) (By (item_by y i)) w (item_by y i w)
   item-go s.Title i w is = at_title i w is
@@ -418,19 +420,28 @@ module _ (Fits : TextFault → Type 0) (n : ℕ) where
   items_closed i [] e = cc
   items_closed i (c ∷ ts) e =
       subst (Good Fits (ItemsText i) (ItemsStop n i) (By (close_heading i)) (c ∷ ts)) (sym (closes_heading i c ts is)) (go i.semantics i.target refl refl) where
-      is : c.symbol ≡ s.CloseBrace
-      is = close_is c.symbol e
+        is : c.symbol ≡ s.CloseBrace
+        is = close_is c.symbol e
 
-      go : (a : Option Semantics) (b : Option PlacedTarget) → i.semantics ≡ a → i.target ≡ b → Good Fits (ItemsText i) (ItemsStop n i) (By (close_heading i)) (c ∷ ts) (heading_by a b (c ∷ ts))
-      go None b ea eb =
-          ([], refl, lacking part.Semantics (items_begun i) (ap (missing_by part.Semantics) (sym is)) (i, c, ts, no_item i, refl, ap is_close_brace is, ea),
-          λ fits v al. closes_alike i None b c ts v is ea eb _ (λ x. refl) al)
-      go (Some a) None ea eb =
-          ([], refl, lacking part.Target (items_begun i) (ap (missing_by part.Target) (sym is)) (i, c, ts, no_item i, refl, ap is_close_brace is, ((a, ea), eb)),
-          λ fits v al. closes_alike i (Some a) None c ts v is ea eb _ (λ x. refl) al)
-      go (Some a) (Some b) ea eb =
-          (c ∷ [], refl, ([], c, i, refl, no_item i, ea, eb, ap is_close_brace is, refl),
-          λ v al. closes_heading i c v is ∙ ap (λ z. heading_by z i.target (c ∷ v)) ea ∙ ap (λ z. heading_by (Some a) z (c ∷ v)) eb)
+        go : (a : Option Semantics) (b : Option PlacedTarget) → i.semantics ≡ a → i.target ≡ b → Good Fits (ItemsText i) (ItemsStop n i) (By (close_heading i)) (c ∷ ts) (heading_by a b (c ∷ ts))
+        go None b ea eb = (
+          [],
+          refl,
+          lacking part.Semantics (items_begun i) (ap (missing_by part.Semantics) (sym is)) (i, c, ts, no_item i, refl, ap is_close_brace is, ea),
+          λ fits v al. closes_alike i None b c ts v is ea eb _ (λ x. refl) al,
+        )
+        go (Some a) None ea eb = (
+          [],
+          refl,
+          lacking part.Target (items_begun i) (ap (missing_by part.Target) (sym is)) (i, c, ts, no_item i, refl, ap is_close_brace is, ((a, ea), eb)),
+          λ fits v al. closes_alike i (Some a) None c ts v is ea eb _ (λ x. refl) al,
+        )
+        go (Some a) (Some b) ea eb = (
+          c ∷ [],
+          refl,
+          ([], c, i, refl, no_item i, ea, eb, ap is_close_brace is, refl),
+          λ v al. closes_heading i c v is ∙ ap (λ z. heading_by z i.target (c ∷ v)) ea ∙ ap (λ z. heading_by (Some a) z (c ∷ v)) eb,
+        )
 
   items_more_text : (i : Items) (u : List Lexeme) (j : Items) (v : List Lexeme) (h : Heading) → ItemText i u j → ItemsText j v h → ItemsText i (u ++ v) h
   items_more_text i u j v h (x, quiet) (w, c, k, e, xs, es, et, ic, q) =
@@ -485,21 +496,22 @@ module _ (Fits : TextFault → Type 0) (n : ℕ) where
       (at_head Fits is_info info_class part.Info w) head_stop
       (λ u v e h. weaker Fits (ItemsText no_items) (λ x b. HeadingTextOf (u ++ x) b) (ItemsStop n no_items) (λ p f z. HeadingStop (u ++ p) f z) (By heading_run) (By heading_run) v (heading_run v)
       (λ x b m. text u h.0 h.1 h.2 h.3 x b m) (λ p f z m. stop u h.0 h.1 h.2 h.3 p f z m) (λ x q o. o) (at_items v))))
-      where
-        same : (x : List Lexeme) → read_heading x ≡ (part_word is_info part.Info x >>= mark is_open_brace >>= heading_run)
-        same x = bind_assoc (part_word is_info part.Info x >>= mark is_open_brace) read_items (λ r. close_heading r.0 r.1)
+    where
+      same : (x : List Lexeme) → read_heading x ≡ (part_word is_info part.Info x >>= mark is_open_brace >>= heading_run)
+      same x = bind_assoc (part_word is_info part.Info x >>= mark is_open_brace) read_items (λ r. close_heading r.0 r.1)
 
-        text : (u : List Lexeme) (a b : Lexeme) → u ≡ a ∷ b ∷ [] → IsRow (is_info ∷ is_open_brace ∷ []) (a ∷ b ∷ []) → (x : List Lexeme) (h : Heading) → ItemsText no_items x h → HeadingTextOf (u ++ x) h
-        text u a b eu row x h (w1, c, j, e, xs, es, et, ic, q) =
-            subst (λ z. HeadingTextOf (z ++ x) h) (sym eu) (subst (λ z. HeadingTextOf (a ∷ b ∷ z) h) (sym e)
-            (is_heading a b c w1 j h.semantics h.target row xs es et ic,
+      text : (u : List Lexeme) (a b : Lexeme) → u ≡ a ∷ b ∷ [] → IsRow (is_info ∷ is_open_brace ∷ []) (a ∷ b ∷ []) → (x : List Lexeme) (h : Heading) → ItemsText no_items x h → HeadingTextOf (u ++ x) h
+      text u a b eu row x h (w1, c, j, e, xs, es, et, ic, q) =
+          subst (λ z. HeadingTextOf (z ++ x) h) (sym eu) (subst (λ z. HeadingTextOf (a ∷ b ∷ z) h) (sym e) (
+            is_heading a b c w1 j h.semantics h.target row xs es et ic,
             ends-append (a ∷ b ∷ []) (w1 ++ c ∷ []) (row_quiet (is_info ∷ is_open_brace ∷ []) (info_class, (open_brace_class, tt)) (a ∷ b ∷ []) row)
-            (ends-append w1 (c ∷ []) q (row_quiet (is_close_brace ∷ []) (close_brace_class, tt) (c ∷ []) (ic, tt)))))
+                (ends-append w1 (c ∷ []) q (row_quiet (is_close_brace ∷ []) (close_brace_class, tt) (c ∷ []) (ic, tt))),
+          ))
 
-        stop : (u : List Lexeme) (a b : Lexeme) → u ≡ a ∷ b ∷ [] → IsRow (is_info ∷ is_open_brace ∷ []) (a ∷ b ∷ []) → (p : List Lexeme) (f : TextFault) (z : List Lexeme) → ItemsStop n no_items p f z → HeadingStop (u ++ p) f z
-        stop u a b eu row p f z st =
-            subst (λ q. HeadingStop (q ++ p) f z) (sym eu)
-            (stop_behind (ItemsLack no_items) LacksInHeading (λ m. BeginsItems no_items) (λ m. BeginsHeading) n (a ∷ b ∷ []) p f z
-            (λ m r le b'. in_info a b r row b')
-            (ends-append (a ∷ b ∷ []) p (row_quiet (is_info ∷ is_open_brace ∷ []) (info_class, (open_brace_class, tt)) (a ∷ b ∷ []) row))
-            (λ which h. lack_in_heading a b row p z which h) st)
+      stop : (u : List Lexeme) (a b : Lexeme) → u ≡ a ∷ b ∷ [] → IsRow (is_info ∷ is_open_brace ∷ []) (a ∷ b ∷ []) → (p : List Lexeme) (f : TextFault) (z : List Lexeme) → ItemsStop n no_items p f z → HeadingStop (u ++ p) f z
+      stop u a b eu row p f z st =
+          subst (λ q. HeadingStop (q ++ p) f z) (sym eu)
+          (stop_behind (ItemsLack no_items) LacksInHeading (λ m. BeginsItems no_items) (λ m. BeginsHeading) n (a ∷ b ∷ []) p f z
+          (λ m r le b'. in_info a b r row b')
+          (ends-append (a ∷ b ∷ []) p (row_quiet (is_info ∷ is_open_brace ∷ []) (info_class, (open_brace_class, tt)) (a ∷ b ∷ []) row))
+          (λ which h. lack_in_heading a b row p z which h) st)

@@ -1,3 +1,4 @@
+pub mod Ascii
 pub mod Exact
 pub mod Firsts
 pub mod FormulaGood
@@ -11,9 +12,10 @@ pub mod Lift
 pub mod Loops
 pub mod MainGood
 pub mod Numbered
+pub mod Numbers
+pub mod OneAnswer
 pub mod Refusals
 pub mod RowFacts
-pub mod Numbers
 pub mod Stopping
 pub mod TextGood
 pub mod TextRead

@@ -1,5 +1,5 @@
 -- What reading the second part gives is one, and where it stops the tokens before begin one.
-use Rattle.std.proofs.Common.{◌≡◌, ℕ, zero, suc, ◌<◌, ◌≤◌, Bool, true, false, not, cond, List, [], ◌∷◌, ◌++◌, length, drop, Result, Ok, Err, Option, Some, None, sym, refl, ap, ◌∙◌, subst, arith, append_assoc, append-nil, length-append}
+use Rattle.std.proofs.Common.{◌≡◌, ℕ, ◌<◌, ◌≤◌, Bool, true, false, not, cond, List, [], ◌∷◌, ◌++◌, length, drop, Ok, Err, sym, refl, ap, ◌∙◌, subst, arith, append_assoc, append-nil, length-append}
 use Rattle.ltl_form.specs.declared.formulas.Ltl.{Ltl}
 use Rattle.tlsf_basic.specs.declared.faults.Part.{Part}
 use Rattle.tlsf_basic.specs.declared.faults.Part.TheVariants as part
@@ -11,25 +11,25 @@ use Rattle.tlsf_basic.specs.declared.symbols.Symbol.TheVariants as s
 use Rattle.tlsf_basic.specs.declared.symbols.Lexeme.{Lexeme}
 use Rattle.tlsf_basic.specs.declared.mains.Sections.{Sections}
 use Rattle.tlsf_basic.specs.declared.mains.Parts.{Parts}
-use Rattle.tlsf_basic.specs.Reads.{Halt, Read, Past, ◌>>=◌, front, expected_by, expected, unexpected, misplaced_by, missing, missing_by, passes, turns}
+use Rattle.tlsf_basic.specs.Reads.{Halt, Read, Past, ◌>>=◌, front, expected_by, expected, unexpected, misplaced_by, missing_by, passes}
 use Rattle.tlsf_basic.specs.Marks.{mark, closing, part_word, in_braces, is_main, is_open_brace, is_close_brace, is_declared, is_semicolon, is_inputs, is_outputs, is_section}
 use Rattle.tlsf_basic.specs.Formulas.{read_atom, read_unary, read_formula, nested}
 use Rattle.tlsf_basic.specs.Mains.{name_turn, read_names, read_declared, read_entry, read_entries, read_inputs, read_outputs, read_section, part_by, read_part, read_parts, close_main, read_main}
 use Rattle.tlsf_basic.specs.Values.{added, no_parts}
 use Rattle.tlsf_basic.specs.Rows.{IsRow, BeginsRow}
 use Rattle.tlsf_basic.specs.Grammar.{IsFormula}
-use Rattle.tlsf_basic.specs.Begins.{BeginsMark, no_mark, the_mark, nothing, in_first, in_all, in_any, in_arrow, BeginsFormula}
+use Rattle.tlsf_basic.specs.Begins.{no_mark, nothing, in_first, in_all, in_any, in_arrow, BeginsFormula}
 use Rattle.tlsf_basic.specs.TextGrammar.{IsNames, no_name, name_more, IsEntries, no_entry, entry_more, IsPart, is_inputs_part, is_outputs_part, is_section_part, IsParts, no_part, part_more, IsMain, is_whole_main}
-use Rattle.tlsf_basic.specs.TextBegins.{BeginsNames, in_names, BeginsEntry, in_formula, at_semicolon, BeginsPart, no_part_yet, at_inputs, in_inputs, end_of_inputs, at_outputs, in_outputs, end_of_outputs, at_section, in_section, end_of_section, BeginsParts, in_parts, BeginsMain, at_main, in_main, whole_main}
+use Rattle.tlsf_basic.specs.TextBegins.{BeginsNames, in_names, BeginsEntry, in_formula, at_semicolon, BeginsPart, no_part_yet, at_inputs, in_inputs, at_outputs, in_outputs, at_section, in_section, BeginsParts, in_parts, BeginsMain, at_main, in_main}
 use Rattle.tlsf_basic.specs.TextFaults.{LacksInMain, no_main, no_inputs, no_outputs}
-use Rattle.tlsf_basic.proofs.Good.{Texts, Stops, Others, By, Passed, valued, unvalued, Alike, Good, weaker, behind_token, then, past-then, past-past, past_value, once_each, gives, map_value, at_front, at_unexpected, choose, IsOne, StopsAt, token, at_token}
-use Rattle.tlsf_basic.proofs.Loops.{run, loop, Looped, bind_assoc, halt_of, by_valued, passes_run, from_valued}
+use Rattle.tlsf_basic.proofs.Good.{Texts, Stops, By, Passed, valued, Alike, Good, weaker, behind_token, then, past-then, past-past, past_value, once_each, at_unexpected, choose, IsOne, StopsAt, at_token}
+use Rattle.tlsf_basic.proofs.Loops.{run, loop, bind_assoc, halt_of, by_valued, passes_run, from_valued}
 use Rattle.tlsf_basic.proofs.Lift.{lift_formula}
-use Rattle.tlsf_basic.proofs.Stopping.{ends_by, ends_operand, ends-append, ends-last, Operand, Lacks, no_lack, Stop, not_expected, not_parenthesized, at_depth, lacking, Carried, operand_behind, stop_behind, stop_within}
+use Rattle.tlsf_basic.proofs.Stopping.{ends-append, ends-last, Operand, Lacks, no_lack, Stop, not_expected, not_parenthesized, lacking, Carried, stop_behind, stop_within}
 use Rattle.tlsf_basic.proofs.FormulaOperand.{formula_operand}
 use Rattle.tlsf_basic.proofs.FormulaGood.{StopOf, at_formula_of}
-use Rattle.tlsf_basic.proofs.RowFacts.{Class, Classes, main_class, open_brace_class, close_brace_class, declared_class, semicolon_class, inputs_class, outputs_class, section_class, row_quiet, begins_row_quiet, RowStop, at_mark, at_pair}
-use Rattle.tlsf_basic.proofs.HeadingGood.{Quiet, Plain, HeadText, HeadStop, at_word, at_brace, at_head, close_is}
+use Rattle.tlsf_basic.proofs.RowFacts.{Classes, main_class, open_brace_class, close_brace_class, declared_class, semicolon_class, inputs_class, outputs_class, section_class, row_quiet, begins_row_quiet, RowStop, at_mark, at_pair}
+use Rattle.tlsf_basic.proofs.HeadingGood.{Quiet, HeadText, HeadStop, at_word, at_brace, at_head, close_is}
 
 abbrev NamesRow : List (Symbol → Bool)
 NamesRow = is_declared ∷ is_semicolon ∷ []
@@ -81,9 +81,9 @@ module _ (Fits : TextFault → Type 0) where
   names_more_stop a u b p f v row (begun, fault, quiet) =
       let (t, x, eu, both) = row_two is_declared is_semicolon u row in
       (subst (λ z. BeginsNames (z ++ p)) (sym eu) (more t x both p begun), fault, ends-append u p (row_quiet NamesRow names_classes u row) quiet)
-      where
-        more : (t x : Lexeme) → IsRow NamesRow (t ∷ x ∷ []) → (p : List Lexeme) → BeginsNames p → BeginsNames (t ∷ x ∷ p)
-        more t x both p (in_names w q xs begun) = in_names (t ∷ x ∷ w) q (name_more t x w both xs) begun
+    where
+      more : (t x : Lexeme) → IsRow NamesRow (t ∷ x ∷ []) → (p : List Lexeme) → BeginsNames p → BeginsNames (t ∷ x ∷ p)
+      more t x both p (in_names w q xs begun) = in_names (t ∷ x ∷ w) q (name_more t x w both xs) begun
 
   names_stuck : (a : Unit {0}) → in_braces s.End ≡ true → (e : Halt) × (valued (name_turn []) ≡ Err e) × (valued (mark is_close_brace []) ≡ Err e)
   unfolding mark
@@ -250,14 +250,25 @@ module _ (Fits : TextFault → Type 0) (n m : ℕ) (le : n ≤ m) (fits : Fits T
         (λ p f v h. subst (λ q. EntriesStop all q f v) (sym h.0) (not_expected (entries_begun all n [] entry_nothing) h.1 refl)) (at_mark Fits is_close_brace close_brace_class w)
 
     entries_more_text : (all : Sections) (u : List Lexeme) (next : Sections) (v : List Lexeme) (b : Parts) → EntryText n kind all u next → SectionText n kind i next v b → SectionText n kind i all (u ++ v) b
-    entries_more_text all u next v b (f, w, c, eu, x, is, ea) (z, d, after, ev, xs, id, eb) =
-        (w ++ c ∷ z, d, after, ap (λ q. q ++ v) eu ∙ ap (λ q. (w ++ c ∷ []) ++ q) ev ∙ append_assoc w (c ∷ []) (z ++ d ∷ []) ∙ sym (append_assoc w (c ∷ z) (d ∷ [])),
-        entry_more all f w c z after x is (subst (λ q. IsEntries n kind q z after) ea xs), id, eb)
+    entries_more_text all u next v b (f, w, c, eu, x, is, ea) (z, d, after, ev, xs, id, eb) = (
+      w ++ c ∷ z,
+      d,
+      after,
+      ap (λ q. q ++ v) eu ∙ ap (λ q. (w ++ c ∷ []) ++ q) ev ∙ append_assoc w (c ∷ []) (z ++ d ∷ []) ∙ sym (append_assoc w (c ∷ z) (d ∷ [])),
+      entry_more all f w c z after x is (subst (λ q. IsEntries n kind q z after) ea xs),
+      id,
+      eb,
+    )
 
     entries_carried : (all : Sections) (u : List Lexeme) (next : Sections) → EntryText n kind all u next → Carried (EntriesBegin kind next) (EntriesBegin kind all) n u
-    entries_carried all u next (f, w, c, eu, x, is, ea) k r h (z, v, after, e, xs, b) =
-        (w ++ c ∷ z, v, after, ap (λ q. q ++ r) eu ∙ ap (λ q. (w ++ c ∷ []) ++ q) e ∙ append_assoc w (c ∷ []) (z ++ v) ∙ sym (append_assoc w (c ∷ z) v),
-        entry_more all f w c z after (lift_formula x k h) is (subst (λ q. IsEntries k kind q z after) ea xs), b)
+    entries_carried all u next (f, w, c, eu, x, is, ea) k r h (z, v, after, e, xs, b) = (
+      w ++ c ∷ z,
+      v,
+      after,
+      ap (λ q. q ++ r) eu ∙ ap (λ q. (w ++ c ∷ []) ++ q) e ∙ append_assoc w (c ∷ []) (z ++ v) ∙ sym (append_assoc w (c ∷ z) v),
+      entry_more all f w c z after (lift_formula x k h) is (subst (λ q. IsEntries k kind q z after) ea xs),
+      b,
+    )
 
     entries_more_stop : (all : Sections) (u : List Lexeme) (next : Sections) (p : List Lexeme) (f : TextFault) (v : List Lexeme) → EntryText n kind all u next → EntriesStop next p f v → EntriesStop all (u ++ p) f v
     entries_more_stop all u next p f v h stop =
@@ -298,17 +309,17 @@ module _ (Fits : TextFault → Type 0) (n m : ℕ) (le : n ≤ m) (fits : Fits T
       (past_value Fits (DeclaredText Fits) (λ x b. PartText n i (t ∷ x) b) (DeclaredStop Fits) (λ p f z. PartStop n i (t ∷ p) f z) read_declared (record i { inputs = true }) ts (read_declared ts)
       (λ x h. subst (λ q. PartText n i (t ∷ q) (record i { inputs = true })) (sym h.3) (is_inputs_part i t h.0 h.1 h.2 e (head, (h.4, tt)) h.5 h.6, closed_quiet (t ∷ h.0 ∷ h.2) h.1 h.6))
       (stop e) (at_declared Fits ts)))
-      where
-        head : is_inputs t.symbol ≡ true
-        head = ap is_inputs (sym is)
+    where
+      head : is_inputs t.symbol ≡ true
+      head = ap is_inputs (sym is)
 
-        classes : Classes (is_inputs ∷ is_open_brace ∷ [])
-        classes = (inputs_class, (open_brace_class, tt))
+      classes : Classes (is_inputs ∷ is_open_brace ∷ [])
+      classes = (inputs_class, (open_brace_class, tt))
 
-        stop : i.inputs ≡ false → (p : List Lexeme) (f : TextFault) (z : List Lexeme) → DeclaredStop Fits p f z → PartStop n i (t ∷ p) f z
-        stop e p f z (at_open ep fault) = subst (λ q. PartStop n i (t ∷ q) f z) (sym ep) (not_expected (at_inputs i (t ∷ []) e (head, tt)) fault (begins_row_quiet (is_inputs ∷ is_open_brace ∷ []) classes (t ∷ []) (head, tt)))
-        stop e p f z (among_names b w ep ib begun fault quiet) =
-            subst (λ q. PartStop n i (t ∷ q) f z) (sym ep) (not_expected (in_inputs i t b w e (head, (ib, tt)) begun) fault (ends-append (t ∷ b ∷ []) w (row_quiet (is_inputs ∷ is_open_brace ∷ []) classes (t ∷ b ∷ []) (head, (ib, tt))) quiet))
+      stop : i.inputs ≡ false → (p : List Lexeme) (f : TextFault) (z : List Lexeme) → DeclaredStop Fits p f z → PartStop n i (t ∷ p) f z
+      stop e p f z (at_open ep fault) = subst (λ q. PartStop n i (t ∷ q) f z) (sym ep) (not_expected (at_inputs i (t ∷ []) e (head, tt)) fault (begins_row_quiet (is_inputs ∷ is_open_brace ∷ []) classes (t ∷ []) (head, tt)))
+      stop e p f z (among_names b w ep ib begun fault quiet) =
+          subst (λ q. PartStop n i (t ∷ q) f z) (sym ep) (not_expected (in_inputs i t b w e (head, (ib, tt)) begun) fault (ends-append (t ∷ b ∷ []) w (row_quiet (is_inputs ∷ is_open_brace ∷ []) classes (t ∷ b ∷ []) (head, (ib, tt))) quiet))
 
   at_outputs_part : (i : Parts) (w : List Lexeme) → s.Outputs ≡ front w → Good Fits (PartText n i) (PartStop n i) (By (read_outputs i)) w (read_outputs i w)
   unfolding read_outputs
@@ -321,17 +332,17 @@ module _ (Fits : TextFault → Type 0) (n m : ℕ) (le : n ≤ m) (fits : Fits T
       (past_value Fits (DeclaredText Fits) (λ x b. PartText n i (t ∷ x) b) (DeclaredStop Fits) (λ p f z. PartStop n i (t ∷ p) f z) read_declared (record i { outputs = true }) ts (read_declared ts)
       (λ x h. subst (λ q. PartText n i (t ∷ q) (record i { outputs = true })) (sym h.3) (is_outputs_part i t h.0 h.1 h.2 e (head, (h.4, tt)) h.5 h.6, closed_quiet (t ∷ h.0 ∷ h.2) h.1 h.6))
       (stop e) (at_declared Fits ts)))
-      where
-        head : is_outputs t.symbol ≡ true
-        head = ap is_outputs (sym is)
+    where
+      head : is_outputs t.symbol ≡ true
+      head = ap is_outputs (sym is)
 
-        classes : Classes (is_outputs ∷ is_open_brace ∷ [])
-        classes = (outputs_class, (open_brace_class, tt))
+      classes : Classes (is_outputs ∷ is_open_brace ∷ [])
+      classes = (outputs_class, (open_brace_class, tt))
 
-        stop : i.outputs ≡ false → (p : List Lexeme) (f : TextFault) (z : List Lexeme) → DeclaredStop Fits p f z → PartStop n i (t ∷ p) f z
-        stop e p f z (at_open ep fault) = subst (λ q. PartStop n i (t ∷ q) f z) (sym ep) (not_expected (at_outputs i (t ∷ []) e (head, tt)) fault (begins_row_quiet (is_outputs ∷ is_open_brace ∷ []) classes (t ∷ []) (head, tt)))
-        stop e p f z (among_names b w ep ib begun fault quiet) =
-            subst (λ q. PartStop n i (t ∷ q) f z) (sym ep) (not_expected (in_outputs i t b w e (head, (ib, tt)) begun) fault (ends-append (t ∷ b ∷ []) w (row_quiet (is_outputs ∷ is_open_brace ∷ []) classes (t ∷ b ∷ []) (head, (ib, tt))) quiet))
+      stop : i.outputs ≡ false → (p : List Lexeme) (f : TextFault) (z : List Lexeme) → DeclaredStop Fits p f z → PartStop n i (t ∷ p) f z
+      stop e p f z (at_open ep fault) = subst (λ q. PartStop n i (t ∷ q) f z) (sym ep) (not_expected (at_outputs i (t ∷ []) e (head, tt)) fault (begins_row_quiet (is_outputs ∷ is_open_brace ∷ []) classes (t ∷ []) (head, tt)))
+      stop e p f z (among_names b w ep ib begun fault quiet) =
+          subst (λ q. PartStop n i (t ∷ q) f z) (sym ep) (not_expected (in_outputs i t b w e (head, (ib, tt)) begun) fault (ends-append (t ∷ b ∷ []) w (row_quiet (is_outputs ∷ is_open_brace ∷ []) classes (t ∷ b ∷ []) (head, (ib, tt))) quiet))
 
   at_section_part : (kind : Section) (i : Parts) (w : List Lexeme) → s.Section kind ≡ front w → Good Fits (PartText n i) (PartStop n i) (By (read_section m kind i)) w (read_section n kind i w)
   unfolding read_section read_entries
@@ -345,24 +356,24 @@ module _ (Fits : TextFault → Type 0) (n m : ℕ) (le : n ≤ m) (fits : Fits T
       (λ p f z h. subst (λ q. PartStop n i (t ∷ q) f z) (sym h.0) (not_expected (at_section i (t ∷ []) (head, tt)) h.1 (begins_row_quiet (is_section ∷ is_open_brace ∷ []) classes (t ∷ []) (head, tt))))
       (λ u v e h. weaker Fits (SectionText n kind i i.sections) (λ x b. PartText n i (t ∷ u ++ x) b) (EntriesStop kind i i.sections) (λ p f z. PartStop n i (t ∷ u ++ p) f z) (By (entries_run kind i m)) (By (entries_run kind i m)) v (entries_run kind i n v)
       (λ x b y. text u h.0 h.1 h.2 x b y) (λ p f z st. stop u h.0 h.1 h.2 p f z st) (λ x q o. o) (at_entries kind i v)))
-      where
-        head : is_section t.symbol ≡ true
-        head = ap is_section (sym is)
+    where
+      head : is_section t.symbol ≡ true
+      head = ap is_section (sym is)
 
-        classes : Classes (is_section ∷ is_open_brace ∷ [])
-        classes = (section_class, (open_brace_class, tt))
+      classes : Classes (is_section ∷ is_open_brace ∷ [])
+      classes = (section_class, (open_brace_class, tt))
 
-        text : (u : List Lexeme) (b : Lexeme) → u ≡ b ∷ [] → is_open_brace b.symbol ≡ true → (x : List Lexeme) (j : Parts) → SectionText n kind i i.sections x j → PartText n i (t ∷ u ++ x) j
-        text u b eu ib x j (w, c, after, ex, xs, ic, ej) =
-            subst (λ q. PartText n i (t ∷ q ++ x) j) (sym eu) (subst (λ q. PartText n i (t ∷ b ∷ q) j) (sym ex) (subst (λ q. PartText n i (t ∷ b ∷ w ++ c ∷ []) q) (sym ej)
-            (is_section_part i kind t b c w after (sym is) ib xs ic, closed_quiet (t ∷ b ∷ w) c ic)))
+      text : (u : List Lexeme) (b : Lexeme) → u ≡ b ∷ [] → is_open_brace b.symbol ≡ true → (x : List Lexeme) (j : Parts) → SectionText n kind i i.sections x j → PartText n i (t ∷ u ++ x) j
+      text u b eu ib x j (w, c, after, ex, xs, ic, ej) =
+          subst (λ q. PartText n i (t ∷ q ++ x) j) (sym eu) (subst (λ q. PartText n i (t ∷ b ∷ q) j) (sym ex) (subst (λ q. PartText n i (t ∷ b ∷ w ++ c ∷ []) q) (sym ej)
+          (is_section_part i kind t b c w after (sym is) ib xs ic, closed_quiet (t ∷ b ∷ w) c ic)))
 
-        stop : (u : List Lexeme) (b : Lexeme) → u ≡ b ∷ [] → is_open_brace b.symbol ≡ true → (p : List Lexeme) (f : TextFault) (z : List Lexeme) → EntriesStop kind i i.sections p f z → PartStop n i (t ∷ u ++ p) f z
-        stop u b eu ib p f z st =
-            subst (λ q. PartStop n i (t ∷ q ++ p) f z) (sym eu)
-            (stop_behind no_lack no_lack (EntriesBegin kind i.sections) (λ k. BeginsPart k i) n (t ∷ b ∷ []) p f z
-            (λ k r h x. subst (λ q. BeginsPart k i (t ∷ b ∷ q)) (sym x.3) (in_section i kind t b x.0 x.1 x.2 (sym is) ib x.4 x.5))
-            (ends-append (t ∷ b ∷ []) p (row_quiet (is_section ∷ is_open_brace ∷ []) classes (t ∷ b ∷ []) (head, (ib, tt)))) (λ part x. x) st)
+      stop : (u : List Lexeme) (b : Lexeme) → u ≡ b ∷ [] → is_open_brace b.symbol ≡ true → (p : List Lexeme) (f : TextFault) (z : List Lexeme) → EntriesStop kind i i.sections p f z → PartStop n i (t ∷ u ++ p) f z
+      stop u b eu ib p f z st =
+          subst (λ q. PartStop n i (t ∷ q ++ p) f z) (sym eu)
+          (stop_behind no_lack no_lack (EntriesBegin kind i.sections) (λ k. BeginsPart k i) n (t ∷ b ∷ []) p f z
+          (λ k r h x. subst (λ q. BeginsPart k i (t ∷ b ∷ q)) (sym x.3) (in_section i kind t b x.0 x.1 x.2 (sym is) ib x.4 x.5))
+          (ends-append (t ∷ b ∷ []) p (row_quiet (is_section ∷ is_open_brace ∷ []) classes (t ∷ b ∷ []) (head, (ib, tt)))) (λ part x. x) st)
 
   part-go : (y : Symbol) (i : Parts) (w : List Lexeme) → y ≡ front w → Good Fits (PartText n i) (PartStop n i) (By (part_by m y i)) w (part_by n y i w)
   part-go s.Inputs i w is = at_inputs_part i w is
@@ -381,19 +392,28 @@ module _ (Fits : TextFault → Type 0) (n m : ℕ) (le : n ≤ m) (fits : Fits T
   parts_closed i [] e = cc
   parts_closed i (c ∷ ts) e =
       subst (Good Fits (PartsText n i) (PartsStop n i) (By (close_main i)) (c ∷ ts)) (sym (closes_main i c ts is)) (go i.inputs i.outputs refl refl) where
-      is : c.symbol ≡ s.CloseBrace
-      is = close_is c.symbol e
+        is : c.symbol ≡ s.CloseBrace
+        is = close_is c.symbol e
 
-      go : (a b : Bool) → i.inputs ≡ a → i.outputs ≡ b → Good Fits (PartsText n i) (PartsStop n i) (By (close_main i)) (c ∷ ts) (sides a b i.sections (c ∷ ts) ts)
-      go false b ea eb =
-          ([], refl, lacking part.Inputs (parts_begun i) (ap (missing_by part.Inputs) (sym is)) (i, c, ts, no_part i, refl, ap is_close_brace is, ea),
-          λ f v al. main_alike i false b c ts v is ea eb _ (λ x us. refl) al)
-      go true false ea eb =
-          ([], refl, lacking part.Outputs (parts_begun i) (ap (missing_by part.Outputs) (sym is)) (i, c, ts, no_part i, refl, ap is_close_brace is, (ea, eb)),
-          λ f v al. main_alike i true false c ts v is ea eb _ (λ x us. refl) al)
-      go true true ea eb =
-          (c ∷ [], refl, ([], c, i, refl, no_part i, ea, eb, refl, ap is_close_brace is),
-          λ v al. closes_main i c v is ∙ ap (λ z. sides z i.outputs i.sections (c ∷ v) v) ea ∙ ap (λ z. sides true z i.sections (c ∷ v) v) eb)
+        go : (a b : Bool) → i.inputs ≡ a → i.outputs ≡ b → Good Fits (PartsText n i) (PartsStop n i) (By (close_main i)) (c ∷ ts) (sides a b i.sections (c ∷ ts) ts)
+        go false b ea eb = (
+          [],
+          refl,
+          lacking part.Inputs (parts_begun i) (ap (missing_by part.Inputs) (sym is)) (i, c, ts, no_part i, refl, ap is_close_brace is, ea),
+          λ f v al. main_alike i false b c ts v is ea eb _ (λ x us. refl) al,
+        )
+        go true false ea eb = (
+          [],
+          refl,
+          lacking part.Outputs (parts_begun i) (ap (missing_by part.Outputs) (sym is)) (i, c, ts, no_part i, refl, ap is_close_brace is, (ea, eb)),
+          λ f v al. main_alike i true false c ts v is ea eb _ (λ x us. refl) al,
+        )
+        go true true ea eb = (
+          c ∷ [],
+          refl,
+          ([], c, i, refl, no_part i, ea, eb, refl, ap is_close_brace is),
+          λ v al. closes_main i c v is ∙ ap (λ z. sides z i.outputs i.sections (c ∷ v) v) ea ∙ ap (λ z. sides true z i.sections (c ∷ v) v) eb,
+        )
 
   parts_more_text : (i : Parts) (u : List Lexeme) (j : Parts) (v : List Lexeme) (all : Sections) → PartText n i u j → PartsText n j v all → PartsText n i (u ++ v) all
   parts_more_text i u j v all (x, quiet) (w, c, k, e, xs, ei, eo, ea, ic) =
@@ -448,19 +468,19 @@ module _ (Fits : TextFault → Type 0) (n m : ℕ) (le : n ≤ m) (fits : Fits T
       (at_head Fits is_main main_class part.Main w) main_head_stop
       (λ u v e h. weaker Fits (PartsText n no_parts) (λ x b. IsMain n (u ++ x) b) (PartsStop n no_parts) (λ p f z. MainStop (u ++ p) f z) (By (main_run m)) (By (main_run m)) v (main_run n v)
       (λ x b y. text u h.0 h.1 h.2 h.3 x b y) (λ p f z st. stop u h.0 h.1 h.2 h.3 p f z st) (λ x q o. o) (at_parts v))))
-      where
-        same : (k : ℕ) (x : List Lexeme) → read_main k x ≡ (part_word is_main part.Main x >>= mark is_open_brace >>= main_run k)
-        same k x = bind_assoc (part_word is_main part.Main x >>= mark is_open_brace) (read_parts k) (λ r. close_main r.0 r.1)
+    where
+      same : (k : ℕ) (x : List Lexeme) → read_main k x ≡ (part_word is_main part.Main x >>= mark is_open_brace >>= main_run k)
+      same k x = bind_assoc (part_word is_main part.Main x >>= mark is_open_brace) (read_parts k) (λ r. close_main r.0 r.1)
 
-        text : (u : List Lexeme) (a b : Lexeme) → u ≡ a ∷ b ∷ [] → IsRow (is_main ∷ is_open_brace ∷ []) (a ∷ b ∷ []) → (x : List Lexeme) (all : Sections) → PartsText n no_parts x all → IsMain n (u ++ x) all
-        text u a b eu row x all (y, c, j, e, xs, ei, eo, ea, ic) =
-            subst (λ z. IsMain n (z ++ x) all) (sym eu) (subst (λ z. IsMain n (a ∷ b ∷ z) all) (sym e) (subst (IsMain n (a ∷ b ∷ y ++ c ∷ [])) (sym ea)
-            (is_whole_main a b c y j row xs ei eo ic)))
+      text : (u : List Lexeme) (a b : Lexeme) → u ≡ a ∷ b ∷ [] → IsRow (is_main ∷ is_open_brace ∷ []) (a ∷ b ∷ []) → (x : List Lexeme) (all : Sections) → PartsText n no_parts x all → IsMain n (u ++ x) all
+      text u a b eu row x all (y, c, j, e, xs, ei, eo, ea, ic) =
+          subst (λ z. IsMain n (z ++ x) all) (sym eu) (subst (λ z. IsMain n (a ∷ b ∷ z) all) (sym e) (subst (IsMain n (a ∷ b ∷ y ++ c ∷ [])) (sym ea)
+          (is_whole_main a b c y j row xs ei eo ic)))
 
-        stop : (u : List Lexeme) (a b : Lexeme) → u ≡ a ∷ b ∷ [] → IsRow (is_main ∷ is_open_brace ∷ []) (a ∷ b ∷ []) → (p : List Lexeme) (f : TextFault) (z : List Lexeme) → PartsStop n no_parts p f z → MainStop (u ++ p) f z
-        stop u a b eu row p f z st =
-            subst (λ q. MainStop (q ++ p) f z) (sym eu)
-            (stop_behind (PartsLack n no_parts) (LacksInMain n) (λ k. BeginsParts k no_parts) BeginsMain n (a ∷ b ∷ []) p f z
-            (λ k r h b'. in_main a b r row b')
-            (ends-append (a ∷ b ∷ []) p (row_quiet (is_main ∷ is_open_brace ∷ []) (main_class, (open_brace_class, tt)) (a ∷ b ∷ []) row))
-            (λ which h. lack_in_main a b row p z which h) st)
+      stop : (u : List Lexeme) (a b : Lexeme) → u ≡ a ∷ b ∷ [] → IsRow (is_main ∷ is_open_brace ∷ []) (a ∷ b ∷ []) → (p : List Lexeme) (f : TextFault) (z : List Lexeme) → PartsStop n no_parts p f z → MainStop (u ++ p) f z
+      stop u a b eu row p f z st =
+          subst (λ q. MainStop (q ++ p) f z) (sym eu)
+          (stop_behind (PartsLack n no_parts) (LacksInMain n) (λ k. BeginsParts k no_parts) BeginsMain n (a ∷ b ∷ []) p f z
+          (λ k r h b'. in_main a b r row b')
+          (ends-append (a ∷ b ∷ []) p (row_quiet (is_main ∷ is_open_brace ∷ []) (main_class, (open_brace_class, tt)) (a ∷ b ∷ []) row))
+          (λ which h. lack_in_main a b row p z which h) st)

@@ -1,5 +1,5 @@
 -- The names in order, and the number of each.
-use Rattle.std.proofs.Common.{◌≡◌, ℕ, suc, ◌<◌, ◌≤◌, ◌+◌, min, Bool, true, false, not, cond, List, [], ◌∷◌, ◌++◌, length, take, map, get_or, Bor, nat_lt, Option, Some, None, Result, Ok, Err, sym, refl, ap, ◌∙◌, subst, arith}
+use Rattle.std.proofs.Common.{◌≡◌, ℕ, ◌<◌, ◌≤◌, ◌+◌, min, Bool, true, false, not, cond, List, [], ◌∷◌, ◌++◌, length, take, map, get_or, Bor, nat_lt, Some, None, Result, Ok, Err, sym, refl, ap, ◌∙◌, arith}
 use Rattle.std.specs.Prelude.{◌||◌, ◌&&◌, fold, position, OkIff}
 use Rattle.std.specs.Result.{result_unwrap_or}
 use Rattle.std.specs.List.{list_any, position_or_len}
@@ -7,8 +7,6 @@ use Rattle.std.specs.Str.{bytes_eq}
 use Rattle.std.proofs.lemmas.List.{take_more, map-append}
 use Rattle.std.proofs.lemmas.List.Sums.{fold-append}
 use Rattle.indexmap.specs.IndexSet.{insert_key}
-use Rattle.tlsf_basic.specs.declared.symbols.Symbol.{Symbol}
-use Rattle.tlsf_basic.specs.declared.symbols.Symbol.TheVariants as s
 use Rattle.tlsf_basic.specs.declared.symbols.Lexeme.{Lexeme}
 use Rattle.tlsf_basic.specs.Signals.{with_name, name_of, each_once, inputs_of, outputs_of, declared_of}
 
@@ -37,12 +35,12 @@ same_name a b = bytes_eq a.now b.now
 
 pub insert-seen : (ks : List (Bor (List ℕ))) (k : Bor (List ℕ)) → seen (insert_key same_name ks k) ≡ with_name (seen ks) k.now
 insert-seen ks k = go (list_any (same_name k) ks) refl where
-    e : list_any (bytes_eq k.now) (seen ks) ≡ list_any (same_name k) ks
-    e = any-seen (bytes_eq k.now) ks
+  e : list_any (bytes_eq k.now) (seen ks) ≡ list_any (same_name k) ks
+  e = any-seen (bytes_eq k.now) ks
 
-    go : (b : Bool) → list_any (same_name k) ks ≡ b → seen (cond b ks (ks ++ k ∷ [])) ≡ cond (list_any (bytes_eq k.now) (seen ks)) (seen ks) (seen ks ++ k.now ∷ [])
-    go true is = ap (λ b. cond b (seen ks) (seen ks ++ k.now ∷ [])) (sym (e ∙ is))
-    go false is = map-append (λ k. k.now) ks (k ∷ []) ∙ ap (λ b. cond b (seen ks) (seen ks ++ k.now ∷ [])) (sym (e ∙ is))
+  go : (b : Bool) → list_any (same_name k) ks ≡ b → seen (cond b ks (ks ++ k ∷ [])) ≡ cond (list_any (bytes_eq k.now) (seen ks)) (seen ks) (seen ks ++ k.now ∷ [])
+  go true is = ap (λ b. cond b (seen ks) (seen ks ++ k.now ∷ [])) (sym (e ∙ is))
+  go false is = map-append (λ k. k.now) ks (k ∷ []) ∙ ap (λ b. cond b (seen ks) (seen ks ++ k.now ∷ [])) (sym (e ∙ is))
 
 pub len_more : (a b n i : ℕ) (new : Bool) → a ≡ b + cond new 1 0 → b ≤ n + i → a ≤ n + (i + 1)
 len_more a b n i true e h = omega (arith, e, h)

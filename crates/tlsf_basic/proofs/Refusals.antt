@@ -1,20 +1,21 @@
 -- From what the steps of reading tell to the specification or the fault of a text.
-use Rattle.std.proofs.Common.{◌≡◌, ℕ, ◌≤◌, ◌+◌, Bool, false, List, ◌++◌, length, vec_len, map, slice_get, string_bytes, encode_utf8_all, Result, Ok, Err, Option, Some, sym, refl, ap, ◌∙◌, subst, arith, length-append}
+use Rattle.std.proofs.Common.{◌≡◌, ℕ, ◌≤◌, ◌+◌, Bool, List, length, slice_get, Result, Ok, Err, Some, sym, ap, ◌∙◌, subst, arith, length-append, map, encode_utf8_all}
 use Rattle.std.specs.Prelude.{IfErr}
 use Rattle.tlsf_lex.specs.Tokens.{tokens_of, Tells}
 use Rattle.tlsf_lex.specs.declared.tokens.LexError.{LexError}
 use Rattle.tlsf_lex.specs.declared.tokens.LexError.TheVariants as lexical
-use Rattle.tlsf_basic.specs.declared.faults.TextFault.{TextFault}
 use Rattle.tlsf_basic.specs.declared.faults.TextFault.TheVariants.{DuplicateSignal, UnknownSignal, MixedTarget, TooManySignals}
 use Rattle.tlsf_basic.specs.declared.faults.TextError.{TextError}
 use Rattle.tlsf_basic.specs.declared.faults.TextError.TheVariants.{Fault, Memory}
 use Rattle.tlsf_basic.specs.declared.headings.Heading.{Heading}
 use Rattle.tlsf_basic.specs.declared.mains.Sections.{Sections}
 use Rattle.tlsf_basic.specs.declared.symbols.Lexeme.{Lexeme}
-use Rattle.tlsf_basic.specs.Signals.{inputs_of, outputs_of, numbered, IsFirst, IsNever, is_repeated, is_undeclared}
+use Rattle.tlsf_basic.specs.Signals.{inputs_of, outputs_of, numbered, IsFirst, IsNever, is_repeated, is_undeclared, name_of}
 use Rattle.tlsf_basic.specs.Mains.{read_text}
 use Rattle.tlsf_basic.specs.TextGrammar.{IsText}
-use Rattle.tlsf_basic.specs.Specification.{place_of, text_error, GivesPlaced, IsLexed, Agrees, AreNamed, all_declared, IsNameFault, repeated, undeclared, IsFault, no_tokens, no_text, of_names, of_target, of_number, IsRefused, IsNameRefused, IsTargetRefused, IsNumberRefused}
+use Rattle.tlsf_basic.specs.Specification.{text_error, GivesPlaced, IsLexed, Agrees, AreNamed, all_declared, IsNameFault, repeated, undeclared, IsFault, no_tokens, no_text, of_names, of_target, of_number, IsRefused, IsNameRefused, IsTargetRefused, IsNumberRefused}
+use Rattle.tlsf_basic.specs.declared.words.Zone.TheVariants as zone
+use Rattle.tlsf_basic.proofs.Ascii.{inputs_plain, outputs_plain}
 use Rattle.tlsf_basic.proofs.Exact.{found_text, found_fault}
 
 pub err_gives : {A : Type 0} (Q : TextError → Type 0) (r : Result A TextError) (e y : TextError) → r ≡ Err y → y ≡ e → Q e → IfErr r Q
@@ -62,3 +63,9 @@ module _ (text : List ℕ) (as_written : Bool) (v w : List Lexeme) (lexed : IsLe
 pub few_declared : (v ins outs : List Lexeme) (m n : ℕ) → ins ≡ inputs_of v → outs ≡ outputs_of v → m ≡ length ins → n ≡ length outs → m + n ≤ 40 → length (all_declared v) ≤ 40
 few_declared v ins outs m n ei eo em en few =
     omega (arith, few, em, en, ap length ei, ap length eo, length-append (inputs_of v) (outputs_of v))
+
+pub inputs_named : (text : List ℕ) (v : List Lexeme) → IsLexed text v → map encode_utf8_all (map (name_of text) (inputs_of v)) ≡ map (name_of text) (inputs_of v)
+inputs_named text v (ts, et, ev) = subst (λ z. map encode_utf8_all (map (name_of text) (inputs_of z)) ≡ map (name_of text) (inputs_of z)) (sym ev) (inputs_plain text zone.Heading ts et)
+
+pub outputs_named : (text : List ℕ) (v : List Lexeme) → IsLexed text v → map encode_utf8_all (map (name_of text) (outputs_of v)) ≡ map (name_of text) (outputs_of v)
+outputs_named text v (ts, et, ev) = subst (λ z. map encode_utf8_all (map (name_of text) (outputs_of z)) ≡ map (name_of text) (outputs_of z)) (sym ev) (outputs_plain text zone.Heading ts et)

@@ -1,5 +1,5 @@
 -- Rows of single tokens: what reading them gives.
-use Rattle.std.proofs.Common.{◌≡◌, ℕ, Bool, true, false, cond, List, [], ◌∷◌, ◌++◌, length, drop, Result, Ok, Err, sym, refl, ap, ◌∙◌, subst, append_assoc, append-nil}
+use Rattle.std.proofs.Common.{◌≡◌, Bool, true, false, List, [], ◌∷◌, ◌++◌, Ok, Err, sym, refl, subst}
 use Rattle.word_core.specs.declared.names.Target.TheVariants.{Mealy}
 use Rattle.tlsf_basic.specs.declared.symbols.Side.TheVariants.{Input}
 use Rattle.tlsf_basic.specs.declared.symbols.Section.TheVariants as section
@@ -7,10 +7,10 @@ use Rattle.tlsf_basic.specs.declared.faults.TextFault.{TextFault}
 use Rattle.tlsf_basic.specs.declared.symbols.Symbol.{Symbol}
 use Rattle.tlsf_basic.specs.declared.symbols.Symbol.TheVariants as s
 use Rattle.tlsf_basic.specs.declared.symbols.Lexeme.{Lexeme}
-use Rattle.tlsf_basic.specs.Reads.{Halt, Read, Past, ◌>>=◌, front, expected_by, expected}
+use Rattle.tlsf_basic.specs.Reads.{◌>>=◌, front, expected_by, expected}
 use Rattle.tlsf_basic.specs.Marks.{mark, is_title, is_description, is_semantics, is_target, is_tags, is_colon, is_text, is_comma, is_kind, is_info, is_main, is_open_brace, is_close_brace, is_declared, is_semicolon, is_inputs, is_outputs, is_section, is_strict, is_name}
 use Rattle.tlsf_basic.specs.Rows.{IsRow, BeginsRow}
-use Rattle.tlsf_basic.proofs.Good.{Texts, Stops, Others, By, Passed, valued, unvalued, Good, weaker, past-past, IsOne, StopsAt, token, at_token}
+use Rattle.tlsf_basic.proofs.Good.{Stops, Passed, valued, Good, weaker, past-past, IsOne, StopsAt, at_token}
 use Rattle.tlsf_basic.proofs.Stopping.{ends_by, ends_operand, ends-append}
 use Rattle.tlsf_basic.proofs.FormulaWhole.{made}
 
@@ -208,10 +208,10 @@ module _ (Fits : TextFault → Type 0) where
       (at_mark is k w)
       (λ p f v h. (subst (BeginsRow (is ∷ two ∷ [])) (sym h.0) tt, h.1))
       (λ u v e one. second u v one)
-      where
-        second : (u v : List Lexeme) → IsOne is u tt → Good Fits (λ x b. IsRow (is ∷ two ∷ []) (u ++ x)) (λ p f z. RowStop (is ∷ two ∷ []) (u ++ p) f z) (Passed (mark two)) v (valued (mark two v))
-        second u v (t, eu, h) =
-            weaker Fits (IsOne two) (λ x b. IsRow (is ∷ two ∷ []) (u ++ x)) (StopsAt two expected_by) (λ p f z. RowStop (is ∷ two ∷ []) (u ++ p) f z) (Passed (mark two)) (Passed (mark two)) v (valued (mark two v))
-            (λ x b one. subst (λ q. IsRow (is ∷ two ∷ []) (q ++ x)) (sym eu) (subst (λ q. IsRow (is ∷ two ∷ []) (t ∷ q)) (sym one.1) (h, (one.2, tt))))
-            (λ p f z stop. (subst (λ q. BeginsRow (is ∷ two ∷ []) (q ++ p)) (sym eu) (subst (λ q. BeginsRow (is ∷ two ∷ []) (t ∷ q)) (sym stop.0) (h, tt)), stop.1))
-            (λ x q o. o) (at_mark two l v)
+    where
+      second : (u v : List Lexeme) → IsOne is u tt → Good Fits (λ x b. IsRow (is ∷ two ∷ []) (u ++ x)) (λ p f z. RowStop (is ∷ two ∷ []) (u ++ p) f z) (Passed (mark two)) v (valued (mark two v))
+      second u v (t, eu, h) =
+          weaker Fits (IsOne two) (λ x b. IsRow (is ∷ two ∷ []) (u ++ x)) (StopsAt two expected_by) (λ p f z. RowStop (is ∷ two ∷ []) (u ++ p) f z) (Passed (mark two)) (Passed (mark two)) v (valued (mark two v))
+          (λ x b one. subst (λ q. IsRow (is ∷ two ∷ []) (q ++ x)) (sym eu) (subst (λ q. IsRow (is ∷ two ∷ []) (t ∷ q)) (sym one.1) (h, (one.2, tt))))
+          (λ p f z stop. (subst (λ q. BeginsRow (is ∷ two ∷ []) (q ++ p)) (sym eu) (subst (λ q. BeginsRow (is ∷ two ∷ []) (t ∷ q)) (sym stop.0) (h, tt)), stop.1))
+          (λ x q o. o) (at_mark two l v)

@@ -1,5 +1,5 @@
 -- Why reading stops: the fault, and what the tokens before it begin.
-use Rattle.std.proofs.Common.{◌≡◌, ℕ, zero, suc, ◌≤◌, Bool, true, false, List, [], ◌∷◌, ◌++◌, sym, refl, ap, ◌∙◌, subst, arith, append_assoc, append-nil}
+use Rattle.std.proofs.Common.{◌≡◌, ℕ, suc, ◌≤◌, Bool, true, false, List, [], ◌∷◌, ◌++◌, sym, refl, ap, ◌∙◌, subst, arith, append_assoc}
 use Rattle.ltl_form.specs.declared.formulas.Ltl.{Ltl}
 use Rattle.tlsf_basic.specs.declared.faults.Part.{Part}
 use Rattle.tlsf_basic.specs.declared.faults.TextFault.{TextFault}
@@ -56,9 +56,14 @@ abbrev pub Carried : (ℕ → List Lexeme → Type 0) → (ℕ → List Lexeme �
 Carried B1 B n u = (m : ℕ) (r : List Lexeme) → n ≤ m → B1 m r → B m (u ++ r)
 
 pub operand_behind : (B1 B : ℕ → List Lexeme → Type 0) (n : ℕ) (u p : List Lexeme) → Carried B1 B n u → Operand B1 n p → Operand B n (u ++ p)
-operand_behind B1 B n u p carry (q, x, g, e, is, open_) =
-    (u ++ q, x, g, ap (λ y. u ++ y) e ∙ sym (append_assoc u q x), is,
-    λ o h. subst (B (suc n)) (sym (append_assoc u q (o ∷ []))) (carry (suc n) (q ++ o ∷ []) (omega arith) (open_ o h)))
+operand_behind B1 B n u p carry (q, x, g, e, is, open_) = (
+  u ++ q,
+  x,
+  g,
+  ap (λ y. u ++ y) e ∙ sym (append_assoc u q x),
+  is,
+  λ o h. subst (B (suc n)) (sym (append_assoc u q (o ∷ []))) (carry (suc n) (q ++ o ∷ []) (omega arith) (open_ o h)),
+)
 
 pub stop_behind : (M1 M : Lacks) (B1 B : ℕ → List Lexeme → Type 0) (n : ℕ) (u p : List Lexeme) (f : TextFault) (v : List Lexeme)
     → Carried B1 B n u → (ends_operand p ≡ false → ends_operand (u ++ p) ≡ false) → ((part : Part) → M1 part p v → M part (u ++ p) v)

@@ -1,19 +1,18 @@
 -- What reading a text gives, and where it stops.
-use Rattle.std.proofs.Common.{◌≡◌, ℕ, zero, suc, ◌+◌, ◌≤◌, Bool, true, false, List, [], ◌∷◌, ◌++◌, Result, Ok, Err, sym, refl, ap, ◌∙◌, subst, arith, append_assoc, append-nil}
+use Rattle.std.proofs.Common.{◌≡◌, ℕ, ◌≤◌, false, List, [], ◌∷◌, ◌++◌, Result, Ok, Err, sym, refl, ap, ◌∙◌, subst, append-nil}
 use Rattle.tlsf_basic.specs.declared.faults.TextFault.{TextFault}
 use Rattle.tlsf_basic.specs.declared.faults.TextFault.TheVariants.{TooDeep}
 use Rattle.tlsf_basic.specs.declared.headings.Heading.{Heading}
 use Rattle.tlsf_basic.specs.declared.mains.Sections.{Sections}
 use Rattle.tlsf_basic.specs.declared.symbols.Lexeme.{Lexeme}
-use Rattle.tlsf_basic.specs.Reads.{Halt, Read, Past, ◌>>=◌, expected}
+use Rattle.tlsf_basic.specs.Reads.{Halt, Read, ◌>>=◌, expected}
 use Rattle.tlsf_basic.specs.Marks.{end}
 use Rattle.tlsf_basic.specs.Headings.{read_heading}
 use Rattle.tlsf_basic.specs.Mains.{read_main, read_text}
-use Rattle.tlsf_basic.specs.TextGrammar.{IsHeading, IsMain, is_whole_main, IsText, is_whole_text}
+use Rattle.tlsf_basic.specs.TextGrammar.{IsMain, is_whole_main, IsText, is_whole_text}
 use Rattle.tlsf_basic.specs.TextBegins.{BeginsHeading, BeginsMain, whole_main, BeginsText, in_heading, behind_heading}
 use Rattle.tlsf_basic.specs.TextFaults.{Lacks, in_first, in_later, LacksInHeading, LacksInMain}
 use Rattle.tlsf_basic.proofs.Good.{Stops, By, Alike, Good, then, map_value}
-use Rattle.tlsf_basic.proofs.Loops.{bind_assoc}
 use Rattle.tlsf_basic.proofs.Stopping.{ends_operand, ends-append, Stop, not_expected, stop_behind}
 use Rattle.tlsf_basic.proofs.HeadingGood.{HeadingTextOf, HeadingStop, at_heading}
 use Rattle.tlsf_basic.proofs.MainGood.{MainStop, at_main_part, closed_quiet}

@@ -1,12 +1,11 @@
 -- Each whole text of the grammar is read as its value.
-use Rattle.std.proofs.Common.{◌≡◌, ℕ, zero, suc, ◌<◌, ◌≤◌, Bool, true, false, not, cond, List, [], ◌∷◌, ◌++◌, length, drop, Result, Ok, Err, Option, Some, None, sym, refl, ap, ◌∙◌, subst, arith, append_assoc, append-nil, length-append}
+use Rattle.std.proofs.Common.{◌≡◌, ℕ, zero, suc, ◌<◌, ◌≤◌, Bool, true, false, cond, List, [], ◌∷◌, ◌++◌, length, drop, Ok, Some, sym, refl, ap, ◌∙◌, subst, arith, append_assoc, length-append}
 use Rattle.std.specs.Prelude.{is_some}
 use Rattle.ltl_form.specs.declared.formulas.Ltl.{Ltl}
 use Rattle.word_core.specs.declared.names.Target.{Target}
 use Rattle.tlsf_basic.specs.declared.faults.Part.{Part}
 use Rattle.tlsf_basic.specs.declared.faults.Part.TheVariants as part
 use Rattle.tlsf_basic.specs.declared.headings.Semantics.{Semantics}
-use Rattle.tlsf_basic.specs.declared.headings.PlacedTarget.{PlacedTarget}
 use Rattle.tlsf_basic.specs.declared.headings.Items.{Items}
 use Rattle.tlsf_basic.specs.declared.headings.Heading.{Heading}
 use Rattle.tlsf_basic.specs.declared.mains.Sections.{Sections}
@@ -15,13 +14,13 @@ use Rattle.tlsf_basic.specs.declared.symbols.Section.{Section}
 use Rattle.tlsf_basic.specs.declared.symbols.Symbol.{Symbol}
 use Rattle.tlsf_basic.specs.declared.symbols.Symbol.TheVariants as s
 use Rattle.tlsf_basic.specs.declared.symbols.Lexeme.{Lexeme}
-use Rattle.tlsf_basic.specs.Reads.{Halt, Read, Past, ◌>>=◌, front, unexpected, passes, turns}
+use Rattle.tlsf_basic.specs.Reads.{Read, ◌>>=◌, front, unexpected, passes, turns}
 use Rattle.tlsf_basic.specs.Marks.{mark, closing, part_word, in_braces, is_title, is_description, is_semantics, is_target, is_tags, is_colon, is_text, is_comma, is_info, is_main, is_open_brace, is_close_brace, is_declared, is_semicolon, is_inputs, is_outputs, is_strict, is_name}
 use Rattle.tlsf_basic.specs.Formulas.{read_formula, nested}
 use Rattle.tlsf_basic.specs.Headings.{read_string, kind_by, read_kind, strict_by, semantics_by, read_semantics, read_tags, read_title, read_description, read_tag_item, read_semantics_item, read_target_item, item_by, read_item, read_items, heading_by, close_heading, read_heading}
 use Rattle.tlsf_basic.specs.Values.{no_items, added, no_parts}
 use Rattle.tlsf_basic.specs.Mains.{name_turn, read_names, read_declared, read_entry, read_entries, read_inputs, read_outputs, read_section, part_by, read_part, read_parts, close_main, read_main}
-use Rattle.tlsf_basic.specs.Rows.{IsRow, BeginsRow}
+use Rattle.tlsf_basic.specs.Rows.{IsRow}
 use Rattle.tlsf_basic.specs.Grammar.{atom_value, IsUnary, is_atom, is_parens, is_prefixed, IsAll, is_all, IsAny, is_any, IsArrow, is_last, is_implied, IsFormula, is_arrow, is_lone}
 use Rattle.tlsf_basic.specs.TextGrammar.{IsSemantics, kind_alone, kind_first, strict_first, IsMoreTags, no_tag, tag_more, IsItem, is_title_item, is_description_item, is_semantics_item, is_target_item, is_tags_item, IsItems, no_item, item_more, IsHeading, is_heading, IsNames, no_name, name_more, IsEntries, no_entry, entry_more, IsPart, is_inputs_part, is_outputs_part, is_section_part, IsParts, no_part, part_more, IsMain, is_whole_main}
 use Rattle.tlsf_basic.proofs.Turns.{turns_end, one_turn, passes_end, one_pass}

@@ -1,7 +1,5 @@
 -- What begins a whole text goes on to one.
-use Rattle.std.proofs.Common.{◌≡◌, ℕ, zero, suc, Bool, true, false, List, [], ◌∷◌, ◌++◌, Option, Some, None, sym, refl, ap, ◌∙◌, subst, append_assoc, append-nil}
-use Rattle.ltl_form.specs.declared.formulas.Ltl.{Ltl}
-use Rattle.word_core.specs.declared.names.Target.{Target}
+use Rattle.std.proofs.Common.{◌≡◌, ℕ, Bool, true, false, List, [], ◌∷◌, ◌++◌, Option, Some, None, sym, refl, ap, ◌∙◌, subst, append_assoc, append-nil}
 use Rattle.word_core.specs.declared.names.Target.TheVariants.{Mealy}
 use Rattle.tlsf_basic.specs.declared.headings.Semantics.{Semantics}
 use Rattle.tlsf_basic.specs.declared.headings.PlacedTarget.{PlacedTarget}
@@ -15,13 +13,12 @@ use Rattle.tlsf_basic.specs.declared.symbols.Symbol.TheVariants as s
 use Rattle.tlsf_basic.specs.declared.symbols.Lexeme.{Lexeme}
 use Rattle.tlsf_basic.specs.Marks.{is_title, is_description, is_semantics, is_target, is_tags, is_kind, is_colon, is_text, is_comma, is_info, is_main, is_open_brace, is_close_brace, is_declared, is_semicolon, is_inputs, is_outputs, is_section, is_strict, is_name}
 use Rattle.tlsf_basic.specs.Values.{no_items, added, no_parts}
-use Rattle.tlsf_basic.specs.Rows.{IsRow, BeginsRow}
-use Rattle.tlsf_basic.specs.Grammar.{IsFormula}
-use Rattle.tlsf_basic.specs.Begins.{BeginsMark, no_mark, the_mark, BeginsFormula}
+use Rattle.tlsf_basic.specs.Rows.{IsRow}
+use Rattle.tlsf_basic.specs.Begins.{BeginsMark, no_mark, the_mark}
 use Rattle.tlsf_basic.specs.TextGrammar.{IsSemantics, kind_alone, kind_first, strict_first, IsMoreTags, no_tag, tag_more, IsItem, is_title_item, is_description_item, is_semantics_item, is_target_item, is_tags_item, IsItems, no_item, item_more, IsHeading, is_heading, IsNames, no_name, name_more, IsEntries, no_entry, entry_more, IsPart, is_inputs_part, is_outputs_part, is_section_part, IsParts, no_part, part_more, IsMain, is_whole_main, IsText, is_whole_text}
 use Rattle.tlsf_basic.specs.TextBegins.{BeginsSemantics, in_kind_first, in_strict_first, BeginsItem, no_item_yet, in_title, in_description, at_semantics, in_semantics, in_target, at_tags, in_tags, BeginsItems, in_items, BeginsHeading, at_info, in_info, whole_heading, BeginsNames, in_names, BeginsEntry, in_formula, at_semicolon, BeginsPart, no_part_yet, at_inputs, in_inputs, end_of_inputs, at_outputs, in_outputs, end_of_outputs, at_section, in_section, end_of_section, BeginsParts, in_parts, BeginsMain, at_main, in_main, whole_main, BeginsText, in_heading, behind_heading}
 use Rattle.tlsf_basic.proofs.FormulaWhole.{made, formula_whole}
-use Rattle.tlsf_basic.proofs.RowFacts.{Class, Classes, row_whole, title_class, description_class, semantics_class, target_class, tags_class, colon_class, text_class, comma_class, kind_class, strict_class, name_class, info_class, main_class, open_brace_class, close_brace_class, declared_class, semicolon_class, inputs_class, outputs_class, section_class}
+use Rattle.tlsf_basic.proofs.RowFacts.{row_whole, title_class, description_class, semantics_class, target_class, tags_class, colon_class, text_class, comma_class, kind_class, strict_class, name_class, info_class, main_class, open_brace_class, declared_class, semicolon_class, inputs_class, outputs_class, section_class}
 use Rattle.tlsf_basic.proofs.HeadingGood.{kind_is}
 use Rattle.tlsf_basic.proofs.MainGood.{row_two, section_is}
 
@@ -71,17 +68,20 @@ ItemsOn i w = (x : List Lexeme) × (j : Items) × IsItems i (w ++ x) j
 target_of_row : (i : Items) (w : List Lexeme) → i.target ≡ None → IsRow (is_target ∷ is_colon ∷ is_kind ∷ []) w → (j : Items) × IsItem i w j
 target_of_row i w none row =
     let (a, c, k, e, both) = row_three is_target is_colon is_kind w row in
-    let (kind, is) = kind_is k.symbol both.1.1.0 in
-    (record i { target = Some (record { target = kind; place = k.from }) },
-    subst (λ q. IsItem i q (record i { target = Some (record { target = kind; place = k.from }) })) (sym e) (is_target_item i a c k kind none (both.0, (both.1.0, tt)) is))
+    let (kind, is) = kind_is k.symbol both.1.1.0 in (
+      record i { target = Some (record { target = kind; place = k.from }) },
+      subst (λ q. IsItem i q (record i { target = Some (record { target = kind; place = k.from }) })) (sym e) (is_target_item i a c k kind none (both.0, (both.1.0, tt)) is),
+    )
 
 semantics_item_whole : (i : Items) (w x : List Lexeme) → i.semantics ≡ None → IsRow (is_semantics ∷ is_colon ∷ []) (w ++ x) → (y : List Lexeme) × (j : Items) × IsItem i (w ++ y) j
 semantics_item_whole i w x none row =
     let (a, c, e, both) = row_two is_semantics is_colon (w ++ x) row in
-    let k = made (s.Kind Mealy) in
-    (x ++ k ∷ [], record i { semantics = Some (record { kind = Mealy; strict = false }) },
-    subst (λ q. IsItem i q (record i { semantics = Some (record { kind = Mealy; strict = false }) })) (ap (λ q. q ++ k ∷ []) (sym e) ∙ append_assoc w x (k ∷ []))
-    (is_semantics_item i a c (k ∷ []) (record { kind = Mealy; strict = false }) none both (kind_alone k Mealy refl)))
+    let k = made (s.Kind Mealy) in (
+      x ++ k ∷ [],
+      record i { semantics = Some (record { kind = Mealy; strict = false }) },
+      subst (λ q. IsItem i q (record i { semantics = Some (record { kind = Mealy; strict = false }) })) (ap (λ q. q ++ k ∷ []) (sym e) ∙ append_assoc w x (k ∷ []))
+          (is_semantics_item i a c (k ∷ []) (record { kind = Mealy; strict = false }) none both (kind_alone k Mealy refl)),
+    )
 
 item_whole : (i : Items) (w : List Lexeme) → BeginsItem i w → ItemsOn i w
 item_whole i w (no_item_yet i') = ([], i, no_item i)
@@ -109,9 +109,12 @@ item_whole i w (at_tags i' w' e row) =
 item_whole i w (in_tags i' a c t u v e row more begun) =
     let (x, whole) = row_whole (is_comma ∷ is_name ∷ []) (comma_class, (name_class, tt)) v begun in
     let (d, m, eq, both) = row_two is_comma is_name (v ++ x) whole in
-    let last : IsMoreTags (v ++ x) = subst IsMoreTags (sym eq) (tag_more d m [] both no_tag) in
-    (x, record i { tags = true }, item_alone i (record i { tags = true }) (a ∷ c ∷ t ∷ (u ++ v) ++ x)
-    (subst (λ q. IsItem i (a ∷ c ∷ t ∷ q) (record i { tags = true })) (sym (append_assoc u v x)) (is_tags_item i a c t (u ++ (v ++ x)) e row (tags_join u (v ++ x) more last))))
+    let last : IsMoreTags (v ++ x) = subst IsMoreTags (sym eq) (tag_more d m [] both no_tag) in (
+      x,
+      record i { tags = true },
+      item_alone i (record i { tags = true }) (a ∷ c ∷ t ∷ (u ++ v) ++ x)
+          (subst (λ q. IsItem i (a ∷ c ∷ t ∷ q) (record i { tags = true })) (sym (append_assoc u v x)) (is_tags_item i a c t (u ++ (v ++ x)) e row (tags_join u (v ++ x) more last))),
+    )
 
 items_whole : (i : Items) (w : List Lexeme) → BeginsItems i w → ItemsOn i w
 items_whole i w (in_items a j u v xs b) =
@@ -123,27 +126,39 @@ items_whole i w (in_items a j u v xs b) =
 with_semantics : (j : Items) (o : Option Semantics) → j.semantics ≡ o → (x : List Lexeme) × (k : Items) × (y : Semantics) × IsItems j x k × (k.semantics ≡ Some y) × (k.target ≡ j.target)
 with_semantics j None e =
     let k = record j { semantics = Some (record { kind = Mealy; strict = false }) } in
-    let (y, z, text) = semantics_item_whole j (made s.Semantics ∷ made s.Colon ∷ []) [] e (refl, (refl, tt)) in
-    (made s.Semantics ∷ made s.Colon ∷ made (s.Kind Mealy) ∷ [], record j { semantics = Some (record { kind = Mealy; strict = false }) }, record { kind = Mealy; strict = false },
-    item_alone j (record j { semantics = Some (record { kind = Mealy; strict = false }) }) (made s.Semantics ∷ made s.Colon ∷ made (s.Kind Mealy) ∷ [])
-    (is_semantics_item j (made s.Semantics) (made s.Colon) (made (s.Kind Mealy) ∷ []) (record { kind = Mealy; strict = false }) e (refl, (refl, tt)) (kind_alone (made (s.Kind Mealy)) Mealy refl)), refl, refl)
+    let (y, z, text) = semantics_item_whole j (made s.Semantics ∷ made s.Colon ∷ []) [] e (refl, (refl, tt)) in (
+      made s.Semantics ∷ made s.Colon ∷ made (s.Kind Mealy) ∷ [],
+      record j { semantics = Some (record { kind = Mealy; strict = false }) },
+      record { kind = Mealy; strict = false },
+      item_alone j (record j { semantics = Some (record { kind = Mealy; strict = false }) }) (made s.Semantics ∷ made s.Colon ∷ made (s.Kind Mealy) ∷ [])
+          (is_semantics_item j (made s.Semantics) (made s.Colon) (made (s.Kind Mealy) ∷ []) (record { kind = Mealy; strict = false }) e (refl, (refl, tt)) (kind_alone (made (s.Kind Mealy)) Mealy refl)),
+      refl,
+      refl,
+    )
 with_semantics j (Some y) e = ([], j, y, no_item j, e, refl)
 
 with_target : (j : Items) (o : Option PlacedTarget) → j.target ≡ o → (x : List Lexeme) × (k : Items) × (y : PlacedTarget) × IsItems j x k × (k.target ≡ Some y) × (k.semantics ≡ j.semantics)
-with_target j None e =
-    (made s.Target ∷ made s.Colon ∷ made (s.Kind Mealy) ∷ [], record j { target = Some (record { target = Mealy; place = 0 }) }, record { target = Mealy; place = 0 },
-    item_alone j (record j { target = Some (record { target = Mealy; place = 0 }) }) (made s.Target ∷ made s.Colon ∷ made (s.Kind Mealy) ∷ [])
-    (is_target_item j (made s.Target) (made s.Colon) (made (s.Kind Mealy)) Mealy e (refl, (refl, tt)) refl), refl, refl)
+with_target j None e = (
+  made s.Target ∷ made s.Colon ∷ made (s.Kind Mealy) ∷ [],
+  record j { target = Some (record { target = Mealy; place = 0 }) },
+  record { target = Mealy; place = 0 },
+  item_alone j (record j { target = Some (record { target = Mealy; place = 0 }) }) (made s.Target ∷ made s.Colon ∷ made (s.Kind Mealy) ∷ [])
+      (is_target_item j (made s.Target) (made s.Colon) (made (s.Kind Mealy)) Mealy e (refl, (refl, tt)) refl),
+  refl,
+  refl,
+)
 with_target j (Some y) e = ([], j, y, no_item j, e, refl)
 
 heading_from : (a b : Lexeme) (w : List Lexeme) (j : Items) → IsRow (is_info ∷ is_open_brace ∷ []) (a ∷ b ∷ []) → IsItems no_items w j → (x : List Lexeme) × (h : Heading) × IsHeading (a ∷ b ∷ w ++ x) h
 heading_from a b w j row xs =
     let (x, k, y, ys, ey, et) = with_semantics j j.semantics refl in
     let (z, m, t, zs, ez, es) = with_target k k.target refl in
-    let c = made s.CloseBrace in
-    ((x ++ z) ++ c ∷ [], record { semantics = y; target = t },
-    subst (λ q. IsHeading (a ∷ b ∷ q) (record { semantics = y; target = t })) (append_assoc w (x ++ z) (c ∷ []))
-    (is_heading a b c (w ++ (x ++ z)) m y t row (items_join no_items j m w (x ++ z) xs (items_join j k m x z ys zs)) (es ∙ ey) ez refl))
+    let c = made s.CloseBrace in (
+      (x ++ z) ++ c ∷ [],
+      record { semantics = y; target = t },
+      subst (λ q. IsHeading (a ∷ b ∷ q) (record { semantics = y; target = t })) (append_assoc w (x ++ z) (c ∷ []))
+          (is_heading a b c (w ++ (x ++ z)) m y t row (items_join no_items j m w (x ++ z) xs (items_join j k m x z ys zs)) (es ∙ ey) ez refl),
+    )
 
 heading_of_row : (w : List Lexeme) → IsRow (is_info ∷ is_open_brace ∷ []) w → (x : List Lexeme) × (h : Heading) × IsHeading (w ++ x) h
 heading_of_row w row =
@@ -262,24 +277,33 @@ parts_whole n i w (in_parts a j u v xs b) =
 
 with_inputs : (n : ℕ) (j : Parts) (o : Bool) → j.inputs ≡ o → (x : List Lexeme) × (k : Parts) × IsParts n j x k × (k.inputs ≡ true)
 with_inputs n j true e = ([], j, no_part j, e)
-with_inputs n j false e =
-    (made s.Inputs ∷ made s.OpenBrace ∷ made s.CloseBrace ∷ [], record j { inputs = true },
-    part_alone n j (record j { inputs = true }) (made s.Inputs ∷ made s.OpenBrace ∷ made s.CloseBrace ∷ []) (is_inputs_part j (made s.Inputs) (made s.OpenBrace) (made s.CloseBrace) [] e (refl, (refl, tt)) no_name refl), refl)
+with_inputs n j false e = (
+  made s.Inputs ∷ made s.OpenBrace ∷ made s.CloseBrace ∷ [],
+  record j { inputs = true },
+  part_alone n j (record j { inputs = true }) (made s.Inputs ∷ made s.OpenBrace ∷ made s.CloseBrace ∷ []) (is_inputs_part j (made s.Inputs) (made s.OpenBrace) (made s.CloseBrace) [] e (refl, (refl, tt)) no_name refl),
+  refl,
+)
 
 with_outputs : (n : ℕ) (j : Parts) (o : Bool) → j.outputs ≡ o → (x : List Lexeme) × (k : Parts) × IsParts n j x k × (k.outputs ≡ true) × (k.inputs ≡ j.inputs)
 with_outputs n j true e = ([], j, no_part j, e, refl)
-with_outputs n j false e =
-    (made s.Outputs ∷ made s.OpenBrace ∷ made s.CloseBrace ∷ [], record j { outputs = true },
-    part_alone n j (record j { outputs = true }) (made s.Outputs ∷ made s.OpenBrace ∷ made s.CloseBrace ∷ []) (is_outputs_part j (made s.Outputs) (made s.OpenBrace) (made s.CloseBrace) [] e (refl, (refl, tt)) no_name refl), refl, refl)
+with_outputs n j false e = (
+  made s.Outputs ∷ made s.OpenBrace ∷ made s.CloseBrace ∷ [],
+  record j { outputs = true },
+  part_alone n j (record j { outputs = true }) (made s.Outputs ∷ made s.OpenBrace ∷ made s.CloseBrace ∷ []) (is_outputs_part j (made s.Outputs) (made s.OpenBrace) (made s.CloseBrace) [] e (refl, (refl, tt)) no_name refl),
+  refl,
+  refl,
+)
 
 main_from : (n : ℕ) (a b : Lexeme) (w : List Lexeme) (j : Parts) → IsRow (is_main ∷ is_open_brace ∷ []) (a ∷ b ∷ []) → IsParts n no_parts w j → (x : List Lexeme) × (all : Sections) × IsMain n (a ∷ b ∷ w ++ x) all
 main_from n a b w j row xs =
     let (x, k, ys, ei) = with_inputs n j j.inputs refl in
     let (z, m, zs, eo, same) = with_outputs n k k.outputs refl in
-    let c = made s.CloseBrace in
-    ((x ++ z) ++ c ∷ [], m.sections,
-    subst (λ q. IsMain n (a ∷ b ∷ q) m.sections) (append_assoc w (x ++ z) (c ∷ []))
-    (is_whole_main a b c (w ++ (x ++ z)) m row (parts_join n no_parts j m w (x ++ z) xs (parts_join n j k m x z ys zs)) (same ∙ ei) eo refl))
+    let c = made s.CloseBrace in (
+      (x ++ z) ++ c ∷ [],
+      m.sections,
+      subst (λ q. IsMain n (a ∷ b ∷ q) m.sections) (append_assoc w (x ++ z) (c ∷ []))
+          (is_whole_main a b c (w ++ (x ++ z)) m row (parts_join n no_parts j m w (x ++ z) xs (parts_join n j k m x z ys zs)) (same ∙ ei) eo refl),
+    )
 
 main_of_row : (n : ℕ) (w : List Lexeme) → IsRow (is_main ∷ is_open_brace ∷ []) w → (x : List Lexeme) × (all : Sections) × IsMain n (w ++ x) all
 main_of_row n w row =

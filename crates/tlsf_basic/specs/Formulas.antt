@@ -4,9 +4,7 @@ use Rattle.ltl_form.specs.declared.formulas.Ltl.{Ltl}
 use Rattle.ltl_form.specs.declared.formulas.Ltl.TheVariants as ltl
 use Rattle.tlsf_basic.specs.declared.faults.TextFault.TheVariants.{TooDeep}
 use Rattle.tlsf_basic.specs.declared.symbols.Unary.{Unary}
-use Rattle.tlsf_basic.specs.declared.symbols.Unary.TheVariants as u
 use Rattle.tlsf_basic.specs.declared.symbols.Lone.{Lone}
-use Rattle.tlsf_basic.specs.declared.symbols.Lone.TheVariants as o
 use Rattle.tlsf_basic.specs.declared.symbols.Symbol.{Symbol}
 use Rattle.tlsf_basic.specs.declared.symbols.Symbol.TheVariants as s
 use Rattle.tlsf_basic.specs.declared.symbols.Lexeme.{Lexeme}

@@ -1,5 +1,5 @@
 -- Reading the first part.
-use Rattle.std.specs.Prelude.{Bool, true, false, List, [], ◌∷◌, Option, Some, None, is_some, Ok, Err, drop, length, if◌then◌else◌}
+use Rattle.std.specs.Prelude.{true, false, List, [], ◌∷◌, Option, Some, None, is_some, Ok, Err, drop, length, if◌then◌else◌}
 use Rattle.word_core.specs.declared.names.Target.{Target}
 use Rattle.tlsf_basic.specs.declared.faults.Part.TheVariants as part
 use Rattle.tlsf_basic.specs.declared.faults.TextFault.TheVariants.{MissingPart}

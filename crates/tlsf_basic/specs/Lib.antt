@@ -3,6 +3,7 @@ pub mod Composition
 pub mod Formulas
 pub mod Grammar
 pub mod Headings
+pub mod Laws
 pub mod Mains
 pub mod Marks
 pub mod Reads

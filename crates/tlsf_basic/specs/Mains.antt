@@ -1,10 +1,8 @@
 -- Reading the second part, and the whole text.
-use Rattle.std.specs.Prelude.{ℕ, true, false, not, List, [], ◌∷◌, ◌++◌, Result, Ok, Err, drop, length, if◌then◌else◌}
-use Rattle.ltl_form.specs.declared.formulas.Ltl.{Ltl}
+use Rattle.std.specs.Prelude.{ℕ, true, not, List, Result, Ok, Err, drop, length, if◌then◌else◌}
 use Rattle.tlsf_basic.specs.declared.faults.Part.TheVariants as part
 use Rattle.tlsf_basic.specs.declared.faults.TextFault.TheVariants.{MissingPart}
 use Rattle.tlsf_basic.specs.declared.symbols.Section.{Section}
-use Rattle.tlsf_basic.specs.declared.symbols.Section.TheVariants as section
 use Rattle.tlsf_basic.specs.declared.symbols.Symbol.{Symbol}
 use Rattle.tlsf_basic.specs.declared.symbols.Symbol.TheVariants as s
 use Rattle.tlsf_basic.specs.declared.symbols.Lexeme.{Lexeme}
@@ -15,7 +13,7 @@ use Rattle.tlsf_basic.specs.Reads.{Halt, Read, Past, ◌>>=◌, front, unexpecte
 use Rattle.tlsf_basic.specs.Marks.{mark, closing, is_declared, is_semicolon, is_open_brace, is_close_brace, is_main, in_braces, part_word, end}
 use Rattle.tlsf_basic.specs.Formulas.{nested, read_formula}
 use Rattle.tlsf_basic.specs.Headings.{read_heading}
-use Rattle.tlsf_basic.specs.Values.{added, no_sections, no_parts}
+use Rattle.tlsf_basic.specs.Values.{added, no_parts}
 
 -- a name with `;`
 abbrev pub name_turn : List Lexeme → Past

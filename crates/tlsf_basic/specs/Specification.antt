@@ -1,5 +1,5 @@
 -- What holds of a specification.
-use Rattle.std.specs.Prelude.{◌≡◌, ℕ, ◌+◌, ◌≤◌, Bool, false, List, [], ◌∷◌, ◌++◌, map, length, slice_get, string_bytes, encode_utf8_all, Option, Some, Result, Ok, Err}
+use Rattle.std.specs.Prelude.{◌≡◌, ℕ, ◌+◌, ◌≤◌, Bool, false, List, [], ◌∷◌, ◌++◌, map, length, slice_get, string_bytes, Some, Result, Ok, Err}
 use Rattle.word_core.specs.declared.names.Names.{Names}
 use Rattle.tlsf_lex.specs.declared.tokens.LexFault.{LexFault}
 use Rattle.tlsf_lex.specs.declared.tokens.Token.{Token}
@@ -72,11 +72,11 @@ pub data IsFault (text : List ℕ) (as_written : Bool) : TextFault → ℕ → T
   no_tokens : (what : LexFault) (place : ℕ) → tokens_of text ≡ Err (what, place) → IsFault text as_written (Lex what) place
   no_text : (v : List Lexeme) (what : TextFault) (rest : List Lexeme) → IsLexed text v → IsGrammarFault (numbered text v) what rest → IsFault text as_written what (place_of (length text) rest)
   of_names : (v : List Lexeme) (heading : Heading) (all : Sections) (what : TextFault) (place : ℕ) → IsLexed text v → IsText 256 (numbered text v) (heading, all)
-    → IsNameFault text (numbered text v) what place → IsFault text as_written what place
+      → IsNameFault text (numbered text v) what place → IsFault text as_written what place
   of_target : (v : List Lexeme) (heading : Heading) (all : Sections) → IsLexed text v → IsText 256 (numbered text v) (heading, all) → AreNamed text (numbered text v)
-    → as_written ≡ false → (heading.target.target ≡ heading.semantics.kind → ⊥) → IsFault text as_written MixedTarget heading.target.place
+      → as_written ≡ false → (heading.target.target ≡ heading.semantics.kind → ⊥) → IsFault text as_written MixedTarget heading.target.place
   of_number : (v : List Lexeme) (heading : Heading) (all : Sections) (l : Lexeme) → IsLexed text v → IsText 256 (numbered text v) (heading, all) → AreNamed text (numbered text v)
-    → Agrees as_written heading → slice_get (all_declared v) 40 ≡ Some l → IsFault text as_written TooManySignals l.from
+      → Agrees as_written heading → slice_get (all_declared v) 40 ≡ Some l → IsFault text as_written TooManySignals l.from
 
 -- the text is of the grammar, its names are declared once and are few, its target agrees with its semantics, and these are its names and its formula
 pub record IsSpec (text : List ℕ) (as_written : Bool) (spec : Spec) : Type 0 where
@@ -88,8 +88,8 @@ pub record IsSpec (text : List ℕ) (as_written : Bool) (spec : Spec) : Type 0 w
   pub named : AreNamed text (numbered text lexemes)
   pub agrees : Agrees as_written heading
   pub few : length (all_declared lexemes) ≤ 40
-  pub inputs : map string_bytes spec.names.inputs.items ≡ map encode_utf8_all (map (name_of text) (inputs_of lexemes))
-  pub outputs : map string_bytes spec.names.outputs.items ≡ map encode_utf8_all (map (name_of text) (outputs_of lexemes))
+  pub inputs : map string_bytes spec.names.inputs.items ≡ map (name_of text) (inputs_of lexemes)
+  pub outputs : map string_bytes spec.names.outputs.items ≡ map (name_of text) (outputs_of lexemes)
   pub target : spec.names.target ≡ heading.target.target
   pub formula : spec.formula ≡ formula_of heading.semantics.strict sections
 

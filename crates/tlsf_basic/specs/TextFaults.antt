@@ -1,5 +1,5 @@
 -- The fault of a list of tokens that is no text of the grammar.
-use Rattle.std.specs.Prelude.{◌≡◌, ℕ, Bool, true, false, List, [], ◌∷◌, ◌++◌, Option, Some, None}
+use Rattle.std.specs.Prelude.{◌≡◌, ℕ, Bool, true, false, List, [], ◌∷◌, ◌++◌, Some, None}
 use Rattle.ltl_form.specs.declared.formulas.Ltl.{Ltl}
 use Rattle.tlsf_basic.specs.declared.faults.Part.{Part}
 use Rattle.tlsf_basic.specs.declared.faults.Part.TheVariants as part

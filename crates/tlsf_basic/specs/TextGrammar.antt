@@ -1,5 +1,5 @@
 -- The grammar of whole texts: which lists of tokens are texts of each rule, and their values. The number bounds the nesting in the entries.
-use Rattle.std.specs.Prelude.{◌≡◌, ℕ, Bool, true, false, List, [], ◌∷◌, ◌++◌, Option, Some, None}
+use Rattle.std.specs.Prelude.{◌≡◌, ℕ, true, false, List, [], ◌∷◌, ◌++◌, Some, None}
 use Rattle.word_core.specs.declared.names.Target.{Target}
 use Rattle.tlsf_basic.specs.declared.headings.Semantics.{Semantics}
 use Rattle.tlsf_basic.specs.declared.headings.PlacedTarget.{PlacedTarget}
@@ -8,7 +8,6 @@ use Rattle.tlsf_basic.specs.declared.headings.Heading.{Heading}
 use Rattle.tlsf_basic.specs.declared.mains.Sections.{Sections}
 use Rattle.tlsf_basic.specs.declared.mains.Parts.{Parts}
 use Rattle.tlsf_basic.specs.declared.symbols.Section.{Section}
-use Rattle.tlsf_basic.specs.declared.symbols.Symbol.{Symbol}
 use Rattle.tlsf_basic.specs.declared.symbols.Symbol.TheVariants as s
 use Rattle.tlsf_basic.specs.declared.symbols.Lexeme.{Lexeme}
 use Rattle.tlsf_basic.specs.Marks.{is_title, is_description, is_semantics, is_target, is_tags, is_colon, is_text, is_comma, is_info, is_main, is_open_brace, is_close_brace, is_declared, is_semicolon, is_inputs, is_outputs, is_strict, is_name}
@@ -42,7 +41,7 @@ pub data IsItems : Items → List Lexeme → Items → Type 0 where
 -- the first part, whose closing brace stands behind the semantics and the target
 pub data IsHeading : List Lexeme → Heading → Type 0 where
   is_heading : (a b c : Lexeme) (w : List Lexeme) (i : Items) (semantics : Semantics) (target : PlacedTarget) → IsRow (is_info ∷ is_open_brace ∷ []) (a ∷ b ∷ []) → IsItems no_items w i
-    → i.semantics ≡ Some semantics → i.target ≡ Some target → is_close_brace c.symbol ≡ true → IsHeading (a ∷ b ∷ w ++ c ∷ []) (record { semantics = semantics; target = target })
+      → i.semantics ≡ Some semantics → i.target ≡ Some target → is_close_brace c.symbol ≡ true → IsHeading (a ∷ b ∷ w ++ c ∷ []) (record { semantics = semantics; target = target })
 
 -- any number of names, each with `;`
 pub data IsNames : List Lexeme → Type 0 where

@@ -1,5 +1,5 @@
 -- The values of what the grammar joins.
-use Rattle.std.specs.Prelude.{false, List, [], ◌∷◌, ◌++◌, None}
+use Rattle.std.specs.Prelude.{false, [], ◌∷◌, ◌++◌, None}
 use Rattle.ltl_form.specs.declared.formulas.Ltl.{Ltl}
 use Rattle.ltl_form.specs.declared.formulas.Ltl.TheVariants as ltl
 use Rattle.tlsf_basic.specs.declared.symbols.Unary.{Unary}

@@ -6,6 +6,7 @@ mod copies;
 mod faults;
 mod formulas;
 mod headings;
+mod laws;
 mod mains;
 mod signals;
 mod specifications;
@@ -14,6 +15,7 @@ mod symbols;
 mod words;
 
 pub use faults::{Part, TextError, TextFault};
+pub use laws::one_answer;
 pub use specifications::{Spec, read_spec};
 
 #[cfg(test)]

@@ -166,11 +166,7 @@ fn is_declared(symbol: Symbol) -> bool
 }
 
 /// Whether a declared name is one of these. If it isn't, it becomes one.
-fn repeats<'a>(
-    names: &mut NameSet<'a>,
-    text: &'a [u8],
-    lexeme: Lexeme,
-) -> Result<bool, AllocError>
+fn repeats<'a>(names: &mut NameSet<'a>, text: &'a [u8], lexeme: Lexeme) -> Result<bool, AllocError>
     requires { SpanWithin (length text.now) lexeme }
     ensures found { IfOk result (λ b. b ≡ (is_declared lexeme.symbol && list_any (bytes_eq (name_of text.now lexeme)) (map (λ k. k.now) (keys names.old)))) }
     ensures names { IfOk result (λ b. b ≡ false → map (λ k. k.now) (keys names.new) ≡ map (λ k. k.now) (keys names.old) ++ names_among text.now (lexeme ∷ [])) }

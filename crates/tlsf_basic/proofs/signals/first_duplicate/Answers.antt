@@ -8,7 +8,7 @@ loop-lexeme-preserved c =
     record {
       names = c.in_ok-repeats.ensures.names c.if-branch.false ∙ names_more c.args.text.now c.args.lexemes.now c.loop-lexeme.lexeme-index _ _ c.loop-lexeme-test.true c.loop-lexeme.invariant.names;
       none = none_more (is_repeated c.args.text.now) c.args.lexemes.now c.loop-lexeme.lexeme-index _ c.loop-lexeme.invariant.none
-        (not_repeated c.args.text.now c.args.lexemes.now c.loop-lexeme.lexeme-index _ _ _ c.loop-lexeme.invariant.names c.in_ok-repeats.ensures.found c.if-branch.false);
+          (not_repeated c.args.text.now c.args.lexemes.now c.loop-lexeme.lexeme-index _ _ _ c.loop-lexeme.invariant.names c.in_ok-repeats.ensures.found c.if-branch.false);
     }
 
 pub returns-clause-none : goal.returns-clause-none

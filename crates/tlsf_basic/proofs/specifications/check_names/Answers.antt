@@ -1,4 +1,3 @@
-use Rattle.std.proofs.Common.{◌≡◌}
 use Rattle.tlsf_basic.proofs.Refusals.{name_repeated, name_undeclared}
 use Rattle.tlsf_basic.proofs.specifications.check_names.Goals as goal
 

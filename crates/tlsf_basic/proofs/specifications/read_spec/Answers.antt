@@ -1,4 +1,4 @@
-use Rattle.std.proofs.Common.{◌≡◌, ℕ, ◌+◌, ◌++◌, ◌≤◌, map, encode_utf8_all, true, sym, ap, ◌∙◌, subst, length, vec_len, arith, length-append}
+use Rattle.std.proofs.Common.{◌≡◌, ℕ, ◌+◌, ◌++◌, map, encode_utf8_all, true, sym, ap, ◌∙◌, subst, length, vec_len}
 use Rattle.std.specs.Prelude.{All}
 use Rattle.std.proofs.lemmas.Result.{err_from_is_err_and}
 use Rattle.std.proofs.lemmas.List.Elements.{All-filter}
@@ -8,7 +8,7 @@ use Rattle.tlsf_basic.specs.declared.words.Zone.TheVariants.{Heading}
 use Rattle.tlsf_basic.specs.Mains.{read_text}
 use Rattle.tlsf_basic.specs.Signals.{is_input, is_output, inputs_of, outputs_of, name_of, numbered, IsSignalBelow, IsKnown}
 use Rattle.tlsf_basic.specs.Specification.{IsLexed, AreNamed, IsRefused}
-use Rattle.tlsf_basic.proofs.Refusals.{err_gives, lex_refused, grammar_refused, is_read, names_refused, target_refused, number_refused, few_declared}
+use Rattle.tlsf_basic.proofs.Refusals.{err_gives, lex_refused, grammar_refused, is_read, names_refused, target_refused, number_refused, few_declared, inputs_named, outputs_named}
 use Rattle.tlsf_basic.proofs.Kept.{target_within, placed_later, err_placed}
 use Rattle.tlsf_basic.proofs.Numbered.{read_below}
 use Rattle.tlsf_basic.proofs.specifications.read_spec.Goals as goal
@@ -127,8 +127,8 @@ returns-clause-spec c =
       named = subst (AreNamed c.args.text.now) same c.in_ok-check_names.ensures.named;
       agrees = c.in_ok-check_target.ensures.agrees;
       few = few_declared v _ _ _ _ (inputs_are a.In_ok-declared) (outputs_are a.In_ok-declared) c.in_ok-declared.declared.inputs.ok.0 c.in_ok-declared.declared.outputs.ok.0 c.in_ok-check_count.ensures.few;
-      inputs = c.in_ok-names.ensures.inputs ∙ ap (λ z. map encode_utf8_all (map (name_of c.args.text.now) z)) (inputs_are a.In_ok-declared);
-      outputs = c.in_ok-names.ensures.outputs ∙ ap (λ z. map encode_utf8_all (map (name_of c.args.text.now) z)) (outputs_are a.In_ok-declared);
+      inputs = c.in_ok-names.ensures.inputs ∙ ap (λ z. map encode_utf8_all (map (name_of c.args.text.now) z)) (inputs_are a.In_ok-declared) ∙ inputs_named c.args.text.now v (lexed a.In_ok-lexemes);
+      outputs = c.in_ok-names.ensures.outputs ∙ ap (λ z. map encode_utf8_all (map (name_of c.args.text.now) z)) (outputs_are a.In_ok-declared) ∙ outputs_named c.args.text.now v (lexed a.In_ok-lexemes);
       target = c.in_ok-names.ensures.target;
       formula = c.in_ok-formula.ensures;
     }

@@ -1,0 +1,9 @@
+use Rattle.word_core.specs.declared.names.Player.TheVariants.{System, Environment}
+use Rattle.dual_game.proofs.Avoiding.{avoids}
+use Rattle.dual_game.proofs.games.automata.Goals as goal
+
+pub returns-clause-pair : goal.returns-clause-pair
+returns-clause-pair c = record {
+  system = avoids c.args.s.now.formula System c.in_ok-negated.negated.nodes c.in_ok-negated.negated.root c.in_ok-trimmed.field-0 c.in_ok-negated.ensures.meaning c.in_ok-trimmed.ensures.accepts;
+  environment = avoids c.args.s.now.formula Environment c.in_ok-positive.positive.nodes c.in_ok-positive.positive.root c.in_ok-trimmed-2.field-0 c.in_ok-positive.ensures.meaning c.in_ok-trimmed-2.ensures.accepts;
+}

@@ -1,0 +1,265 @@
+-- The bytes of words and marks are below 128, so a declared name is its bytes.
+use Rattle.std.proofs.Common.{◌≡◌, ℕ, zero, suc, ◌+◌, ◌-◌, ◌<◌, min, Bool, true, false, not, cond, List, [], ◌∷◌, ◌++◌, length, take, drop, map, nat_lt, nat_eq, nat_le, ◌==◌, Option, Some, None, Result, Ok, Err, sym, refl, ap, ◌∙◌, subst, arith, append_assoc, length-append}
+use Rattle.std.specs.Prelude.{◌||◌, ◌&&◌, unwrap_or, position, filter, codes, slice_range, encode_utf8_all}
+use Rattle.std.specs.List.{list_any, starts_with, position_or_len}
+use Rattle.std.specs.Cmp.Lexicographic.{pointwise}
+use Rattle.std.proofs.lemmas.Bool.Decides.{nat_tests}
+use Rattle.std.proofs.lemmas.Str.{encode_ascii}
+use Rattle.std.proofs.Math.Seq.{drop-append_seam}
+use Rattle.tlsf_lex.specs.Bytes.{is_blank, is_digit, starts_word, is_in_word, is_mark, is_full_mark, front_len, line_len, pair_place}
+use Rattle.tlsf_lex.specs.declared.tokens.Kin.{Kin}
+use Rattle.tlsf_lex.specs.declared.tokens.Kin.TheVariants as kin
+use Rattle.tlsf_lex.specs.declared.tokens.Token.{Token}
+use Rattle.tlsf_lex.specs.declared.tokens.LexFault.TheVariants.{BadByte}
+use Rattle.tlsf_lex.specs.declared.steps.Step.{Step}
+use Rattle.tlsf_lex.specs.declared.steps.Step.TheVariants.{Skip, Take, Bad}
+use Rattle.tlsf_lex.specs.Steps.{in_closed, closed_at, slash_step, ended_at, string_step, word_kin, word_step, mark_step, step}
+use Rattle.tlsf_lex.specs.Tokens.{Placed, in_front, by_step, tokens_at, tokens_of}
+use Rattle.tlsf_basic.specs.declared.symbols.Symbol.{Symbol}
+use Rattle.tlsf_basic.specs.declared.symbols.Symbol.TheVariants as s
+use Rattle.tlsf_basic.specs.declared.symbols.Lexeme.{Lexeme}
+use Rattle.tlsf_basic.specs.declared.words.Zone.{Zone}
+use Rattle.tlsf_basic.specs.Marks.{is_declared}
+use Rattle.tlsf_basic.specs.Words.{symbol_of, in_zone, lexeme_of, zone_behind, lexemes_of}
+use Rattle.tlsf_basic.specs.Signals.{is_input, is_output, name_of, inputs_of, outputs_of}
+
+abbrev pub IsAscii : List ℕ → Type 0
+IsAscii [] = Unit {0}
+IsAscii (b ∷ bs) = (b < 128) × IsAscii bs
+
+or_true : (a b : Bool) (P : Type 0) → (a ≡ true → P) → (b ≡ true → P) → (a || b) ≡ true → P
+or_true true b P one two e = one refl
+or_true false b P one two e = two e
+
+and_last : (a b : Bool) → (a && b) ≡ true → b ≡ true
+and_last true b e = e
+and_last false b e = cc
+
+and_first : (a b : Bool) → (a && b) ≡ true → a ≡ true
+and_first true b e = refl
+and_first false b e = cc
+
+at_most : (b k : ℕ) → k < 128 → nat_le b k ≡ true → b < 128
+at_most b k small e = grind (arith, nat_tests)
+
+equal_to : (b k : ℕ) → k < 128 → (b == k) ≡ true → b < 128
+equal_to b k small e = grind (arith, nat_tests)
+
+digit_ascii : (b : ℕ) → is_digit b ≡ true → b < 128
+digit_ascii b e = at_most b 57 (omega arith) (and_last (nat_le 48 b) (nat_le b 57) e)
+
+starts_ascii : (b : ℕ) → starts_word b ≡ true → b < 128
+starts_ascii b e =
+    or_true ((nat_le 97 b && nat_le b 122) || (nat_le 65 b && nat_le b 90) || b == 95) (b == 64) (b < 128)
+    (or_true ((nat_le 97 b && nat_le b 122) || (nat_le 65 b && nat_le b 90)) (b == 95) (b < 128)
+    (or_true (nat_le 97 b && nat_le b 122) (nat_le 65 b && nat_le b 90) (b < 128)
+    (λ h. at_most b 122 (omega arith) (and_last (nat_le 97 b) (nat_le b 122) h)) (λ h. at_most b 90 (omega arith) (and_last (nat_le 65 b) (nat_le b 90) h)))
+    (equal_to b 95 (omega arith))) (equal_to b 64 (omega arith)) e
+
+word_ascii : (b : ℕ) → is_in_word b ≡ true → b < 128
+word_ascii b e =
+    or_true (starts_word b || is_digit b) (b == 39) (b < 128)
+    (or_true (starts_word b) (is_digit b) (b < 128) (starts_ascii b) (digit_ascii b)) (equal_to b 39 (omega arith)) e
+
+any_ascii : (ms : List ℕ) (b : ℕ) → IsAscii ms → list_any (λ m. m == b) ms ≡ true → b < 128
+any_ascii [] b all e = cc
+any_ascii (m ∷ ms) b all e = or_true (m == b) (list_any (λ m. m == b) ms) (b < 128) (λ h. let small : m < 128 = all.0 in grind (arith, nat_tests)) (any_ascii ms b all.1) e
+
+-- the front that passes a test
+
+cut_len : (a b : ℕ) → unwrap_or (cond (nat_lt a b) (Some a) None) b ≡ min a b
+cut_len a b = go (nat_lt a b) refl where
+  go : (c : Bool) → nat_lt a b ≡ c → unwrap_or (cond c (Some a) None) b ≡ min a b
+  go true e = grind (arith, nat_tests)
+  go false e = grind (arith, nat_tests)
+
+front_ascii : (test : ℕ → Bool) → ((b : ℕ) → test b ≡ true → b < 128) → (xs : List ℕ) → IsAscii (take (min (position_or_len (λ b. not (test b)) xs) (length xs)) xs)
+front_ascii test small [] = subst (λ n. IsAscii (take n [])) (let e : 0 ≡ min 0 0 = omega arith in e) tt
+front_ascii test small (x ∷ xs) = go (test x) refl (front_ascii test small xs) where
+  go : (c : Bool) → test x ≡ c → IsAscii (take (min (position_or_len (λ b. not (test b)) xs) (length xs)) xs) → IsAscii (take (min (cond (not (not c)) (1 + position_or_len (λ b. not (test b)) xs) 0) (length (x ∷ xs))) (x ∷ xs))
+  go true e rest =
+      let n = min (position_or_len (λ b. not (test b)) xs) (length xs) in
+      subst (λ k. IsAscii (take k (x ∷ xs))) (let h : suc (min (position_or_len (λ b. not (test b)) xs) (length xs)) ≡ min (1 + position_or_len (λ b. not (test b)) xs) (length (x ∷ xs)) = omega arith in h) (small x e, rest)
+  go false e rest = subst (λ k. IsAscii (take k (x ∷ xs))) (let h : 0 ≡ min 0 (length (x ∷ xs)) = omega arith in h) tt
+
+pub word_front : (xs : List ℕ) → IsAscii (take (front_len is_in_word xs) xs)
+word_front xs = subst (λ n. IsAscii (take n xs)) (sym (cut_len (position_or_len (λ b. not (is_in_word b)) xs) (length xs))) (front_ascii is_in_word word_ascii xs)
+
+-- marks
+
+pointwise_ascii : (ns ys : List ℕ) → pointwise nat_eq ns ys ≡ true → IsAscii ns → IsAscii ys
+pointwise_ascii [] [] e all = tt
+pointwise_ascii [] (y ∷ ys) e all = cc
+pointwise_ascii (n ∷ ns) [] e all = cc
+pointwise_ascii (n ∷ ns) (y ∷ ys) e all =
+    let small : n < 128 = all.0 in
+    let same : nat_eq n y ≡ true = and_first (nat_eq n y) (pointwise nat_eq ns ys) e in
+    (grind (arith, nat_tests), pointwise_ascii ns ys (and_last (nat_eq n y) (pointwise nat_eq ns ys) e) all.1)
+
+-- steps
+
+abbrev pub Plain : Kin → Type 0
+Plain kin.Word = Unit {0}
+Plain kin.Mark = Unit {0}
+Plain kin.Text = ⊥
+Plain kin.Full = ⊥
+
+abbrev kin_of : Step → Kin
+kin_of (Take k n) = k
+kin_of _ = kin.Full
+
+abbrev count_of : Step → ℕ
+count_of (Take k n) = n
+count_of _ = 0
+
+by_cond : (c : Bool) (a b t : Step) (P : Type 0) → (c ≡ true → a ≡ t → P) → (c ≡ false → b ≡ t → P) → cond c a b ≡ t → P
+by_cond true a b t P one two e = one refl e
+by_cond false a b t P one two e = two refl e
+
+module _ (k : Kin) (n : ℕ) (plain : Plain k) where
+  -- a step that takes no word and no mark
+  abbrev Never : Step → Type 0
+  Never t = t ≡ Take k n → ⊥
+
+  never_skip : (m : ℕ) → Never (Skip m)
+  never_skip m e = cc
+
+  never_bad : (f : _) (m : ℕ) → Never (Bad f m)
+  never_bad f m e = cc
+
+  never_text : (m : ℕ) → Never (Take kin.Text m)
+  never_text m e = subst Plain (sym (ap kin_of e)) plain
+
+  never_full : (m : ℕ) → Never (Take kin.Full m)
+  never_full m e = subst Plain (sym (ap kin_of e)) plain
+
+  never_closed : (close : ℕ) (o : Option ℕ) → Never (in_closed close o)
+  never_closed close None e = never_skip (close + 4) e
+  never_closed close (Some inner) e = never_bad _ (inner + 2) e
+
+  never_comment : (text : List ℕ) (o : Option ℕ) → Never (closed_at text o)
+  never_comment text None e = never_bad _ 0 e
+  never_comment text (Some close) e = never_closed close (pair_place 47 42 (take (close + 1) text)) e
+
+  never_slash : (text : List ℕ) → Never (slash_step text)
+  never_slash text e =
+      by_cond (starts_with nat_eq text (codes "/")) _ _ (Take k n) ⊥ (λ c. never_skip (1 + line_len text))
+      (λ c. by_cond (starts_with nat_eq text (codes "*")) _ _ (Take k n) ⊥ (λ d. never_comment (drop 1 text) (pair_place 42 47 (drop 1 text))) (λ d. never_bad BadByte 0)) e
+
+  never_string : (o : Option ℕ) → Never (ended_at o)
+  never_string None e = never_bad _ 0 e
+  never_string (Some end) e = never_text (end + 2) e
+
+  took : (m : ℕ) (j : Kin) (text : List ℕ) → Take j m ≡ Take k n → IsAscii (take m text) → IsAscii (take n text)
+  took m j text e all = subst (λ i. IsAscii (take i text)) (ap count_of e) all
+
+  prefix_ascii : (text ns : List ℕ) (m : ℕ) → m ≡ length ns → IsAscii ns → starts_with nat_eq text ns ≡ true → IsAscii (take m text)
+  prefix_ascii text ns m em all e = subst (λ i. IsAscii (take i text)) (sym em) (pointwise_ascii ns (take (length ns) text) e all)
+
+  mark_ascii : (b : ℕ) (s : List ℕ) → mark_step (b ∷ s) ≡ Take k n → IsAscii (take n (b ∷ s))
+  mark_ascii b s e =
+      by_cond (is_mark b) (Take kin.Mark 1) _ (Take k n) (IsAscii (take n (b ∷ s)))
+      (λ c h. took 1 kin.Mark (b ∷ s) h (any_ascii (codes "{}();:,!") b (omega arith, (omega arith, (omega arith, (omega arith, (omega arith, (omega arith, (omega arith, (omega arith, tt)))))))) c, tt))
+      (λ c. by_cond (is_full_mark b) (Take kin.Full 1) _ (Take k n) (IsAscii (take n (b ∷ s))) (λ d h. absurd (never_full 1 h))
+      (λ d. by_cond (starts_with nat_eq (b ∷ s) (codes "&&")) (Take kin.Mark 2) _ (Take k n) (IsAscii (take n (b ∷ s))) (λ x h. took 2 kin.Mark (b ∷ s) h (prefix_ascii (b ∷ s) (codes "&&") 2 refl (omega arith, (omega arith, tt)) x))
+      (λ x. by_cond (starts_with nat_eq (b ∷ s) (codes "||")) (Take kin.Mark 2) _ (Take k n) (IsAscii (take n (b ∷ s))) (λ y h. took 2 kin.Mark (b ∷ s) h (prefix_ascii (b ∷ s) (codes "||") 2 refl (omega arith, (omega arith, tt)) y))
+      (λ y. by_cond (starts_with nat_eq (b ∷ s) (codes "->")) (Take kin.Mark 2) _ (Take k n) (IsAscii (take n (b ∷ s))) (λ z h. took 2 kin.Mark (b ∷ s) h (prefix_ascii (b ∷ s) (codes "->") 2 refl (omega arith, (omega arith, tt)) z))
+      (λ z. by_cond (starts_with nat_eq (b ∷ s) (codes "<->")) (Take kin.Mark 3) _ (Take k n) (IsAscii (take n (b ∷ s))) (λ q h. took 3 kin.Mark (b ∷ s) h (prefix_ascii (b ∷ s) (codes "<->") 3 refl (omega arith, (omega arith, (omega arith, tt))) q))
+      (λ q h. absurd (never_bad BadByte 0 h))))))) e
+
+  step_ascii : (b : ℕ) (s : List ℕ) → step (b ∷ s) ≡ Take k n → IsAscii (take n (b ∷ s))
+  step_ascii b s e =
+      by_cond (is_blank b) (Skip 1) _ (Take k n) (IsAscii (take n (b ∷ s))) (λ c h. absurd (never_skip 1 h))
+      (λ c. by_cond (b == 47) (slash_step s) _ (Take k n) (IsAscii (take n (b ∷ s))) (λ d h. absurd (never_slash s h))
+      (λ d. by_cond (b == 34) (string_step s) _ (Take k n) (IsAscii (take n (b ∷ s))) (λ x h. absurd (never_string (position (λ z. z == 34) s) h))
+      (λ x. by_cond (starts_word b) (word_step (b ∷ s)) _ (Take k n) (IsAscii (take n (b ∷ s))) (λ y h. took (front_len is_in_word (b ∷ s)) (word_kin (take (front_len is_in_word (b ∷ s)) (b ∷ s))) (b ∷ s) h (word_front (b ∷ s)))
+      (λ y. by_cond (is_digit b) (Take kin.Full (front_len is_digit (b ∷ s))) _ (Take k n) (IsAscii (take n (b ∷ s))) (λ z h. absurd (never_full (front_len is_digit (b ∷ s)) h))
+      (λ z. mark_ascii b s))))) e
+
+-- tokens
+
+module _ (text : List ℕ) where
+  abbrev TokenAscii : Token → Type 0
+  TokenAscii t = Plain t.kin → IsAscii (slice_range text t.from t.to)
+
+  abbrev pub Each : List Token → Type 0
+  Each [] = Unit {0}
+  Each (t ∷ ts) = TokenAscii t × Each ts
+
+  abbrev tokens_or : Result (List Token) Placed → List Token
+  tokens_or (Ok ts) = ts
+  tokens_or (Err e) = []
+
+  at_slice : (pre suffix : List ℕ) (at n : ℕ) → text ≡ pre ++ suffix → length pre ≡ at → slice_range text at (at + n) ≡ take n suffix
+  at_slice pre suffix at n e len =
+      let m : (at + n) - at ≡ n = omega arith in
+      ap (λ i. take i (drop at text)) m
+      ∙ ap (take n) (ap (drop at) e ∙ ap (λ i. drop i (pre ++ suffix)) (sym len) ∙ drop-append_seam pre suffix)
+
+  by-step : (pre s : List ℕ) (b at : ℕ) → text ≡ pre ++ b ∷ s → length pre ≡ at → ((m : ℕ) (us : List Token) → tokens_at (at + 1) m s ≡ Ok us → Each us) → (t : Step) → step (b ∷ s) ≡ t → (ts : List Token) → by_step t at (λ n. tokens_at (at + 1) n s) ≡ Ok ts → Each ts
+  by-step pre s b at e len rest (Skip n) is ts h = rest (n - 1) ts h
+  by-step pre s b at e len rest (Bad what past) is ts h = cc
+  by-step pre s b at e len rest (Take k n) is ts h = go (tokens_at (at + 1) (n - 1) s) refl h where
+    t : Token
+    t = record { kin = k; «from» = at; to = at + n }
+
+    go : (r : Result (List Token) Placed) → tokens_at (at + 1) (n - 1) s ≡ r → in_front (record { kin = k; «from» = at; to = at + n }) r ≡ Ok ts → Each ts
+    go (Err x) er h' = cc
+    go (Ok us) er h' =
+        subst Each (ap tokens_or h')
+        ((λ plain. subst IsAscii (sym (at_slice pre (b ∷ s) at n e len)) (step_ascii k n plain b s is)), rest (n - 1) us er)
+
+  tokens_ascii : (suffix pre : List ℕ) (at passed : ℕ) → text ≡ pre ++ suffix → length pre ≡ at → (ts : List Token) → tokens_at at passed suffix ≡ Ok ts → Each ts
+  unfolding tokens_at
+  tokens_ascii [] pre at passed e len ts h = subst Each (ap tokens_or h) tt
+  tokens_ascii (b ∷ s) pre at (suc passed) e len ts h =
+      tokens_ascii s (pre ++ b ∷ []) (at + 1) passed (e ∙ sym (append_assoc pre (b ∷ []) s)) (omega (arith, len, length-append pre (b ∷ []))) ts h
+  tokens_ascii (b ∷ s) pre at zero e len ts h =
+      by-step pre s b at e len (λ m us k. tokens_ascii s (pre ++ b ∷ []) (at + 1) m (e ∙ sym (append_assoc pre (b ∷ []) s)) (omega (arith, len, length-append pre (b ∷ []))) us k) (step (b ∷ s)) refl ts h
+
+-- names
+
+encode_same : (bs : List ℕ) → IsAscii bs → encode_utf8_all bs ≡ bs
+encode_same [] all = refl
+encode_same (b ∷ bs) all = ap (λ z. z ++ encode_utf8_all bs) (encode_ascii b all.0) ∙ ap (λ z. b ∷ z) (encode_same bs all.1)
+
+plain_kin : (z : Zone) (k : Kin) (bytes : List ℕ) → is_declared (in_zone z (symbol_of k bytes)) ≡ true → Plain k
+plain_kin z kin.Text bytes e = cc
+plain_kin z kin.Full bytes e = cc
+plain_kin z kin.Word bytes e = tt
+plain_kin z kin.Mark bytes e = tt
+
+names_same : (test : Symbol → Bool) → ((y : Symbol) → test y ≡ true → is_declared y ≡ true) → (text : List ℕ) (z : Zone) (ts : List Token) → Each text ts → map encode_utf8_all (map (name_of text) (filter (λ l. test l.symbol) (lexemes_of text z ts))) ≡ map (name_of text) (filter (λ l. test l.symbol) (lexemes_of text z ts))
+unfolding lexemes_of
+names_same test declared text z [] all = refl
+names_same test declared text z (t ∷ ts) all =
+    go (test l.symbol) refl (names_same test declared text (zone_behind text z t) ts all.1) where
+      l : Lexeme
+      l = lexeme_of text (zone_behind text z t) t
+
+      w : List Lexeme
+      w = filter (λ x. test x.symbol) (lexemes_of text (zone_behind text z t) ts)
+
+      go : (b : Bool) → test (lexeme_of text (zone_behind text z t) t).symbol ≡ b
+          → map encode_utf8_all (map (name_of text) (filter (λ x. test x.symbol) (lexemes_of text (zone_behind text z t) ts))) ≡ map (name_of text) (filter (λ x. test x.symbol) (lexemes_of text (zone_behind text z t) ts))
+          → map encode_utf8_all (map (name_of text) (cond b (lexeme_of text (zone_behind text z t) t ∷ filter (λ x. test x.symbol) (lexemes_of text (zone_behind text z t) ts)) (filter (λ x. test x.symbol) (lexemes_of text (zone_behind text z t) ts))))
+          ≡ map (name_of text) (cond b (lexeme_of text (zone_behind text z t) t ∷ filter (λ x. test x.symbol) (lexemes_of text (zone_behind text z t) ts)) (filter (λ x. test x.symbol) (lexemes_of text (zone_behind text z t) ts)))
+      go false e same = same
+      go true e same =
+          ap (λ q. q ∷ map encode_utf8_all (map (name_of text) (filter (λ x. test x.symbol) (lexemes_of text (zone_behind text z t) ts))))
+          (encode_same (slice_range text t.from t.to) (all.0 (plain_kin (zone_behind text z t) t.kin (slice_range text t.from t.to) (declared _ e))))
+          ∙ ap (λ q. slice_range text t.from t.to ∷ q) same
+
+input_declared : (y : Symbol) → is_input y ≡ true → is_declared y ≡ true
+input_declared (s.Declared side) e = refl
+input_declared y e = cc
+
+output_declared : (y : Symbol) → is_output y ≡ true → is_declared y ≡ true
+output_declared (s.Declared side) e = refl
+output_declared y e = cc
+
+pub inputs_plain : (text : List ℕ) (z : Zone) (ts : List Token) → tokens_of text ≡ Ok ts → map encode_utf8_all (map (name_of text) (inputs_of (lexemes_of text z ts))) ≡ map (name_of text) (inputs_of (lexemes_of text z ts))
+inputs_plain text z ts e = names_same is_input input_declared text z ts (tokens_ascii text text [] 0 0 refl (omega arith) ts e)
+
+pub outputs_plain : (text : List ℕ) (z : Zone) (ts : List Token) → tokens_of text ≡ Ok ts → map encode_utf8_all (map (name_of text) (outputs_of (lexemes_of text z ts))) ≡ map (name_of text) (outputs_of (lexemes_of text z ts))
+outputs_plain text z ts e = names_same is_output output_declared text z ts (tokens_ascii text text [] 0 0 refl (omega arith) ts e)
