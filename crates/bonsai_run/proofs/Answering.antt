@@ -1,5 +1,6 @@
 -- What an answer is, from its status and its text.
-use Rattle.std.proofs.Common.{◌≡◌, ℕ, ℤ, Bool, true, false, Option, List, ◌++◌, codes, subst, sym}
+use Rattle.std.proofs.Common.{◌≡◌, ℕ, ℤ, Bool, true, false, Option, List, ◌++◌, codes, refl, subst, sym, ap, ◌∙◌}
+use Rattle.std.specs.Prelude.{◌↔◌, IsTrue}
 use Rattle.word_core.specs.declared.names.Player.{Player}
 use Rattle.word_core.specs.Automaton.{AutomatonData}
 use Rattle.word_core.specs.Lasso.{LassoData}
@@ -9,7 +10,8 @@ use Rattle.shelf_io.specs.Texts.{Texts}
 use Rattle.spec_gen.specs.Arbiter.{arbiter_text}
 use Rattle.ltl_form.specs.Meaning.{holds_at}
 use Rattle.tlsf_basic.specs.declared.specifications.Spec.{Spec}
-use Rattle.tlsf_basic.specs.Specification.{IsSpec}
+use Rattle.tlsf_basic.specs.Specification.{IsSpec, signal_count}
+use Rattle.machine_text.specs.Lassos.{IsLasso, lasso_text}
 use Rattle.game_form.specs.Game.{GameData, lanes}
 use Rattle.game_form.specs.Held.{HasHeld}
 use Rattle.dual_game.specs.declared.games.Pair.{Pair}
@@ -17,11 +19,15 @@ use Rattle.dual_game.specs.Games.{IsGameOf}
 use Rattle.dual_game.specs.Automata.{IsAutomatonOf, IsPairOf}
 use Rattle.bonsai_words.specs.Ordered.{Asked}
 use Rattle.bonsai_words.specs.Ordered.Asked.{synth, downset, check, eval, gen}
+use Rattle.bonsai_run.specs.declared.answers.Answer.{Answer}
 use Rattle.bonsai_run.specs.declared.verdicts.Verdict.{Verdict}
 use Rattle.bonsai_run.specs.Texts.{IsUnder, IsSpecOf, IsLassoOf}
-use Rattle.bonsai_run.specs.Answers.{IsAnswer, IsVerdict, bounds_of, verdict_of, verdict_text, verdict_comment, downset_text}
+use Rattle.bonsai_run.specs.Answers.{IsAnswer, IsWord, IsVerdict, bounds_of, verdict_of, verdict_text, verdict_comment, downset_text}
 use Rattle.bonsai_run.proofs.Satisfied.{satisfied, alone, kept_avoids}
 use Rattle.bonsai_run.specs.Answers.IsAnswer.{decided, held, valid, over, holds, fails, generated}
+
+false≢true : false ≡ true → ⊥
+false≢true e = cc
 
 module _ (texts : Option Texts) where
   answer_as : (order : Asked) (s s' : ℕ) (t t' : List ℕ) → s ≡ s' → t ≡ t' → IsAnswer texts order s' t' → IsAnswer texts order s t
@@ -64,3 +70,32 @@ module _ (texts : Option Texts) where
       → IsAnswer texts (gen clients workers) s t
   is_generated clients workers spec pair v s t of are is h k =
       answer_as _ s _ t _ h k (generated clients workers spec pair v of are is (satisfied spec.formula pair spec.names (bounds_of (0, 1, 8)) v are is) (alone spec.formula pair spec.names (bounds_of (0, 1, 8)) v are is))
+
+  -- of a machine whose bound was kept or not
+  pub is_checked : (name machine : List ℕ) (bound : ℕ) (as_written : Bool) (spec : Spec) (text : List ℕ) (m : MachineData) (a : AutomatonData) (kept : Bool) (answer : Answer)
+      → IsSpecOf texts name as_written spec → IsUnder texts machine text → IsAutomatonOf spec.formula m.player a → IsTrue kept ↔ Keeps a m bound
+      → (kept ≡ true → IsWord 0 (codes "VALID") answer) → (kept ≡ false → IsWord 40 (codes "OVER") answer)
+      → IsAnswer texts (check name machine bound as_written) answer.status answer.text.items
+  is_checked name machine bound as_written spec text m a true answer of under accepts keeps yes_word no_word =
+      let w = yes_word refl in
+      is_valid name machine bound as_written spec text m a answer.status answer.text.items of under accepts (keeps.0 refl) w.0 w.1
+  is_checked name machine bound as_written spec text m a false answer of under accepts keeps yes_word no_word =
+      let w = no_word refl in
+      is_over name machine bound as_written spec text m a answer.status answer.text.items of under accepts (λ k. false≢true (keeps.1 k)) w.0 w.1
+
+  -- of a formula that held or not
+  pub is_evaluated : (name lasso : List ℕ) (as_written : Bool) (spec : Spec) (w : LassoData) (held : Bool) (answer : Answer)
+      → IsSpecOf texts name as_written spec → IsLassoOf texts lasso spec w → holds_at w spec.formula 0 ≡ held
+      → (held ≡ true → IsWord 0 (codes "HOLDS") answer) → (held ≡ false → IsWord 40 (codes "FAILS") answer)
+      → IsAnswer texts (eval name lasso as_written) answer.status answer.text.items
+  is_evaluated name lasso as_written spec w true answer of under is yes_word no_word =
+      let v = yes_word refl in
+      is_holds name lasso as_written spec w answer.status answer.text.items of under is v.0 v.1
+  is_evaluated name lasso as_written spec w false answer of under is yes_word no_word =
+      let v = no_word refl in
+      is_fails name lasso as_written spec w answer.status answer.text.items of under is v.0 v.1
+
+  pub is_lasso : (lasso : List ℕ) (spec : Spec) (w : LassoData) (text : List ℕ) (signals : ℕ) → signals ≡ signal_count spec.names → IsLasso signals w × (text ≡ lasso_text signals w)
+      → IsUnder texts lasso text → IsLassoOf texts lasso spec w
+  is_lasso lasso spec w text signals same is under =
+      (subst (λ n. IsLasso n w) same is.0, subst (λ t. IsUnder texts lasso t) (is.1 ∙ ap (λ n. lasso_text n w) same) under)

@@ -1,5 +1,6 @@
 mod Answering
 mod Appends
+mod Causing
 mod Fetches
 mod Names
 mod Satisfied

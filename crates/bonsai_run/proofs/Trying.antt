@@ -6,7 +6,11 @@ use Rattle.word_core.specs.declared.names.Player.{Player}
 use Rattle.word_core.specs.declared.names.Player.TheVariants.{System, Environment}
 use Rattle.word_core.specs.Machine.{MachineData}
 use Rattle.word_core.specs.Run.{Keeps}
+use Rattle.word_core.specs.declared.names.Kind.{Kind}
+use Rattle.word_core.specs.declared.names.Kind.TheVariants.{First, Second}
+use Rattle.game_form.specs.Covering.{covering_of, CoversLetters}
 use Rattle.game_form.specs.Game.{GameData}
+use Rattle.game_form.specs.Letters.{letters_of, HasLetters}
 use Rattle.game_form.specs.Held.{IsHeld}
 use Rattle.game_form.specs.Vector.{initial}
 use Rattle.dual_game.specs.declared.bounds.Bounds.{Bounds}
@@ -17,11 +21,6 @@ use Rattle.dual_game.proofs.Tried.{tried_first, tried_next, tried_low, none_betw
 use Rattle.bonsai_run.specs.declared.verdicts.Verdict.TheVariants.{Won, Unknown}
 use Rattle.bonsai_run.specs.Answers.{IsVerdict}
 use Rattle.bonsai_run.specs.Winners.{IsWinner, IsLost, IsFoundOfTwo}
-
--- both games decide who wins
-pub record Both (pair : Pair) (names : Names) (system environment : GameData) : Type 0 where
-  pub system : Decides pair.system names System system
-  pub environment : Decides pair.environment names Environment environment
 
 -- the bound is one of those tried, and nobody wins at an earlier one
 pub record Trying (b : Bounds) (system environment : GameData) (bound : ℕ) : Type 0 where
@@ -51,10 +50,12 @@ module _ (b : Bounds) (system environment : GameData) (bound : ℕ) (trying : Tr
       → IsVerdict pair names b (Won bound m)
   wins m (inl w) pair names s e =
       let k = subst (λ g. IsWinner g m) g_is w in
-      (trying.tried, trying.before pair names s e, won pair names System m (s.sound bound m low k.0 k.1))
+      let r = won pair names System m (s.sound bound m low k.0 k.1) in
+      (trying.tried, trying.before pair names s e, r.0, r.1)
   wins m (inr w) pair names s e =
       let k = subst (λ g. IsWinner g m) h_is w in
-      (trying.tried, trying.before pair names s e, won pair names Environment m (e.sound bound m low k.0 k.1))
+      let r = won pair names Environment m (e.sound bound m low k.0 k.1) in
+      (trying.tried, trying.before pair names s e, r.0, r.1)
 
   nobody : IsFoundOfTwo g h None → (pair : Pair) (names : Names) → Decides pair.system names System system → Decides pair.environment names Environment environment → NobodyWins pair names bound
   nobody lost pair names s e System wins = subst IsLost g_is lost.0 (s.exact bound low wins)
@@ -82,3 +83,26 @@ module _ (b : Bounds) (system environment : GameData) (bound : ℕ) (trying : Tr
   ends lost last pair names s e =
       let is : bound ≡ b.last = after_last b bound last in
       (is, λ k tried. so_far lost pair names s e k tried (subst (λ n. k ≤ n) (sym is) (tried_low b k tried)))
+
+-- where no machine was found
+pub found_none : (g h : GameData) (o : Option MachineData) → IsFoundOfTwo g h o → ((m : MachineData) → o ≡ Some m → ⊥) → IsFoundOfTwo g h None
+found_none g h None found not_some = found
+found_none g h (Some m) found not_some = absurd (not_some m refl)
+
+pub found_some : (g h : GameData) (o : Option MachineData) (m : MachineData) → IsFoundOfTwo g h o → o ≡ Some m → IsFoundOfTwo g h (Some m)
+found_some g h o m found is = subst (IsFoundOfTwo g h) is found
+
+-- the letters of a game don't depend on its bound
+letters_of_kind : (kind : Kind) (g : GameData) (k : ℕ) → letters_of kind g → letters_of kind (with_bound k g)
+letters_of_kind First g k h = h
+letters_of_kind Second g k h = h
+
+covering_of_kind : (kind : Kind) (g : GameData) (k : ℕ) → covering_of kind g → covering_of kind (with_bound k g)
+covering_of_kind First g k h = h
+covering_of_kind Second g k h = h
+
+pub has_letters : (g h : GameData) (k : ℕ) → h ≡ with_bound k g → HasLetters g → HasLetters h
+has_letters g h k is letters = subst HasLetters (sym is) (letters_of_kind g.kind g k letters)
+
+pub covers_letters : (g h : GameData) (k : ℕ) → h ≡ with_bound k g → CoversLetters g → CoversLetters h
+covers_letters g h k is covers = subst CoversLetters (sym is) (covering_of_kind g.kind g k covers)

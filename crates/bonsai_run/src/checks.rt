@@ -42,11 +42,19 @@ pub fn eval_answer(alloc: Global, spec: &Spec, text: &[u8]) -> Result<Answer, Fa
     ensures answer { (texts : Option Texts) (name lasso : List ℕ) (as_written : Bool) → IsSpecOf texts name as_written spec.now → IsUnder texts lasso text.now → IfOk result (λ a. IsAnswer texts (eval name lasso as_written) a.status a.text.items) }
     ensures fault { IfErr result IsLater }
 {
-    let signals = spec.names.inputs.len() as u32 + spec.names.outputs.len() as u32;
+    let signals = signals_of(spec);
     let lasso = read_lasso(alloc, text, signals)?;
     let normal = normal_of(alloc, spec, Player::Environment)?;
     let held = holds(alloc, &normal, &lasso)?;
     Ok(held_answer(alloc, held)?)
+}
+
+/// The number of signals.
+fn signals_of(spec: &Spec) -> u32
+    requires { signal_count spec.now.names ≤ 40 }
+    ensures { result ≡ signal_count spec.now.names }
+{
+    spec.names.inputs.len() as u32 + spec.names.outputs.len() as u32
 }
 
 /// Whether a bound was kept, in words.

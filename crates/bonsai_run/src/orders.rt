@@ -1,13 +1,17 @@
 //! The answers of orders.
 
-ghost use Rattle.std.specs.Prelude.{◌≡◌, ℕ, ◌<◌, ◌≤◌, [], length, IfOk, IfErr};
+ghost use Rattle.std.specs.Prelude.{◌≡◌, ℕ, ◌<◌, ◌≤◌, Bool, true, Option, List, [], length, IfOk, IfErr};
+ghost use Rattle.ltl_form.specs.Formula.{signals_below};
+ghost use Rattle.shelf_io.specs.Texts.{Texts};
+ghost use Rattle.tlsf_basic.specs.Specification.{signal_count};
 ghost use Rattle.bonsai_words.specs.Order.{IsInRange, AreBounds, IsWithin};
 ghost use Rattle.bonsai_words.specs.Ordered.{asked};
 ghost use Rattle.bonsai_words.specs.Ordered.Asked.{synth, downset, check, eval};
 ghost use Rattle.bonsai_run.specs.Answers.{IsAnswer};
-ghost use Rattle.bonsai_run.specs.Causes.{IsCause, IsCauseOf};
+ghost use Rattle.bonsai_run.specs.Causes.{IsCause, IsCauseOf, IsLimit};
 ghost use Rattle.bonsai_run.specs.Faults.{Blames};
 ghost use Rattle.bonsai_run.specs.Runs.{first_name, second_name};
+ghost use Rattle.bonsai_run.specs.Texts.{IsSpecOf};
 
 use crate::answers::{Answer, verdict_answer};
 use crate::checks::{check_answer, eval_answer};
@@ -20,6 +24,7 @@ use bonsai_words::Order;
 use dual_game::Bounds;
 use shelf_io::Shelf;
 use std::alloc::Global;
+use tlsf_basic::Spec;
 use word_core::Player;
 
 /// What an order asks for.
@@ -81,8 +86,19 @@ fn synth<H: Shelf>(
     ensures cause { IfErr result (IsCause (H.texts shelf.old) name.now [] as_written) }
 {
     let spec = specification(alloc, shelf, name, "", as_written)?;
+    decided_answer(alloc, &spec, bounds)
+}
+
+/// The verdict on a specification, as an answer.
+fn decided_answer(alloc: Global, spec: &Spec, bounds: (u32, u32, u32)) -> Result<Answer, Fault>
+    requires bounds { AreBounds bounds }
+    requires few { signal_count spec.now.names ≤ 40 }
+    requires numbered { signals_below (signal_count spec.now.names) spec.now.formula ≡ true }
+    ensures answer { (texts : Option Texts) (name : List ℕ) (workers : ℕ) (as_written : Bool) → IsSpecOf texts name as_written spec.now → IfOk result (λ a. IsAnswer texts (synth name bounds workers as_written) a.status a.text.items) }
+    ensures fault { IfErr result IsLimit }
+{
     let (first, step, last) = bounds;
-    let verdict = decide(alloc, &spec, Bounds { first, step, last })?;
+    let verdict = decide(alloc, spec, Bounds { first, step, last })?;
     Ok(verdict_answer(alloc, &verdict, &spec.names)?)
 }
 
@@ -121,8 +137,10 @@ fn check<H: Shelf>(
     ensures cause { IfErr result (IsCause (H.texts shelf.old) name.now machine.now as_written) }
 {
     let spec = specification(alloc, shelf, name, machine, as_written)?;
-    let text = text_of(alloc, shelf, name, machine, Source::Other)?;
-    check_answer(alloc, &spec, &text, bound)
+    match text_of(alloc, shelf, name, machine, Source::Other) {
+        Ok(text) => check_answer(alloc, &spec, &text, bound),
+        Err(fault) => Err(fault),
+    }
 }
 
 /// Whether the formula holds on a lasso.
@@ -140,6 +158,8 @@ fn eval<H: Shelf>(
     ensures cause { IfErr result (IsCause (H.texts shelf.old) name.now lasso.now as_written) }
 {
     let spec = specification(alloc, shelf, name, lasso, as_written)?;
-    let text = text_of(alloc, shelf, name, lasso, Source::Other)?;
-    eval_answer(alloc, &spec, &text)
+    match text_of(alloc, shelf, name, lasso, Source::Other) {
+        Ok(text) => eval_answer(alloc, &spec, &text),
+        Err(fault) => Err(fault),
+    }
 }

@@ -15,6 +15,16 @@ use tlsf_basic::{Spec, read_spec};
 /// The most bytes of a text.
 const MOST_BYTES: usize = 1_048_576;
 
+/// The one of an order's names that is meant.
+fn named<'a>(name: &'a str, other: &'a str, source: Source) -> &'a str
+    ensures { result.now ≡ named name.now other.now source }
+{
+    match source {
+        Source::Specification => name,
+        Source::Other => other,
+    }
+}
+
 /// The bytes of one of an order's texts, at most 1,048,576.
 pub fn text_of<H: Shelf>(
     alloc: Global,
@@ -31,10 +41,7 @@ pub fn text_of<H: Shelf>(
     ensures blames { IfErr result (Blames (H.faults shelf.old) (H.faults shelf.new) (H.last_failed shelf.new) name.now other.now) }
     ensures later { H.faults shelf.old ≤ H.faults shelf.new }
 {
-    let asked = match source {
-        Source::Specification => name,
-        Source::Other => other,
-    };
+    let asked = named(name, other, source);
     match shelf.fetch(alloc, asked, MOST_BYTES + 1) {
         Ok(text) => {
             if text.len() > MOST_BYTES {

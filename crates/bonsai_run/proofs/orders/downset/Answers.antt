@@ -1,0 +1,10 @@
+use Rattle.std.specs.Prelude.{[]}
+use Rattle.bonsai_run.proofs.Causing.{limit_causes}
+use Rattle.bonsai_run.proofs.orders.downset.Goals as goal
+
+pub returns-clause-answer : goal.returns-clause-answer
+returns-clause-answer g c = c.downset_answer.ensures.answer (g.H.Shelf.texts c.args.shelf.now) c.args.name.now c.args.as_written c.in_ok-spec.ensures.is
+
+pub returns-clause-cause : goal.returns-clause-cause
+returns-clause-cause g c =
+    limit_causes (g.H.Shelf.texts c.args.shelf.now) c.args.name.now [] c.args.as_written (c.in_ok-spec.spec, c.in_ok-spec.ensures.is) c.downset_answer.result c.downset_answer.ensures.fault
