@@ -1,5 +1,9 @@
 pub mod DigitLaws
+pub mod EntryLaws
 pub mod FieldLaws
+pub mod HeadLaws
 pub mod LassoLaws
 pub mod LineLaws
 pub mod LineSplits
+pub mod ReadEntries
+pub mod ReadLaws
