@@ -124,7 +124,7 @@ behind_entries own others count from (d ∷ es) (f ∷ fs) text more big h k a e
 first_here : (s : ℕ) (e : Entry) (es : List Entry) → nat_eq e.state s ≡ true → first_lines s (e ∷ es) ≡ e.line ∷ first_lines s es
 first_here s e es h = ap (λ b. cond b (e.line ∷ first_lines s es) []) h
 
-first_other : (s : ℕ) (e : Entry) (es : List Entry) → nat_eq e.state s ≡ false → first_lines s (e ∷ es) ≡ []
+pub first_other : (s : ℕ) (e : Entry) (es : List Entry) → nat_eq e.state s ≡ false → first_lines s (e ∷ es) ≡ []
 first_other s e es h = ap (λ b. cond b (e.line ∷ first_lines s es) []) h
 
 behind_here : (s : ℕ) (e : Entry) (es : List Entry) → nat_eq e.state s ≡ true → behind_state s (e ∷ es) ≡ behind_state s es

@@ -47,10 +47,10 @@ led_behind target player kind text line rest rest' rest'' taken now now' now'' v
       bounded = b.1;
       fits = k;
       parts =
-      t
-      ∙ ap (λ l. l ++ 10 ∷ rest) v.1
-      ∙ ap (λ r. verdict_text v.0 ++ 10 ∷ r) (b.2 ∙ ap (λ r. bound_text b.0 ++ 10 ∷ r) (o ∙ sym (joined_cons (owner_text player kind) [] rest'')) ∙ sym (joined_cons (bound_text b.0) (owner_text player kind ∷ []) rest''))
-      ∙ sym (joined_cons (verdict_text v.0) (bound_text b.0 ∷ owner_text player kind ∷ []) rest'');
+          t
+          ∙ ap (λ l. l ++ 10 ∷ rest) v.1
+          ∙ ap (λ r. verdict_text v.0 ++ 10 ∷ r) (b.2 ∙ ap (λ r. bound_text b.0 ++ 10 ∷ r) (o ∙ sym (joined_cons (owner_text player kind) [] rest'')) ∙ sym (joined_cons (bound_text b.0) (owner_text player kind ∷ []) rest''))
+          ∙ sym (joined_cons (verdict_text v.0) (bound_text b.0 ∷ owner_text player kind ∷ []) rest'');
       place = omega arith;
     }
 

@@ -33,10 +33,10 @@ read_entry_more own others count text line rest now taken before after from es f
       ranged = All-push (IsEntry own others count) es e r.ranged h.0;
       ascends = ascends_push 0 es e r.ascends (subst (λ n. n ≤ e.state) l h.1);
       parts =
-      r.parts
-      ∙ ap (λ t. joined (entry_lines own others es) ++ t) (fed ∙ ap (λ t. t ++ 10 ∷ rest) h.2 ∙ sym (append_assoc (line_text own others e.state e.line) (10 ∷ []) rest))
-      ∙ sym (append_assoc (joined (entry_lines own others es)) (line_text own others e.state e.line ++ 10 ∷ []) rest)
-      ∙ ap (λ t. t ++ rest) (sym (joined_append (entry_lines own others es) (line_text own others e.state e.line ∷ [])) ∙ ap joined (sym (entries_push own others es e)));
+          r.parts
+          ∙ ap (λ t. joined (entry_lines own others es) ++ t) (fed ∙ ap (λ t. t ++ 10 ∷ rest) h.2 ∙ sym (append_assoc (line_text own others e.state e.line) (10 ∷ []) rest))
+          ∙ sym (append_assoc (joined (entry_lines own others es)) (line_text own others e.state e.line ++ 10 ∷ []) rest)
+          ∙ ap (λ t. t ++ rest) (sym (joined_append (entry_lines own others es) (line_text own others e.state e.line ∷ [])) ∙ ap joined (sym (entries_push own others es e)));
       place = (let p = r.place in let n = length_push es e in omega arith);
     })
 

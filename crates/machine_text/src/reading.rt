@@ -1,11 +1,11 @@
 //! Machines from their texts.
 
-ghost use Rattle.std.specs.Prelude.{◌≡◌, ℕ, ◌+◌, ◌-◌, ◌<◌, ◌≤◌, ◌^◌, [], ◌∷◌, ◌++◌, length, map, drop, codes, slice_index_or, IfOk, IfErr, OnOk, IsTrue, MatchOption};
+ghost use Rattle.std.specs.Prelude.{◌≡◌, ℕ, List, ◌+◌, ◌-◌, ◌<◌, ◌≤◌, ◌^◌, [], ◌∷◌, ◌++◌, length, map, drop, codes, slice_index_or, IfOk, IfErr, OnOk, IsTrue, MatchOption};
 ghost use Rattle.std.specs.Fmt.{decimal};
 ghost use Rattle.std.specs.List.{All};
 ghost use Rattle.word_core.specs.Cube.{IsCube};
 ghost use Rattle.word_core.specs.declared.machines.Line.{Line};
-ghost use Rattle.word_core.specs.Machine.{MachineData, IsMachine, IsLine, own_width, other_width};
+ghost use Rattle.word_core.specs.Machine.{MachineData, IsMachine, IsLine, IsDecided, IsLeastWithout, own_width, other_width};
 ghost use Rattle.machine_text.specs.declared.errors.MachineError.TheVariants.{Memory};
 ghost use Rattle.machine_text.specs.declared.reading.Entry.{Entry};
 ghost use Rattle.machine_text.specs.Lines.{NextIsNone};
@@ -60,8 +60,7 @@ fn machine_of(
     let (own, others) = widths(player, inputs, outputs);
     let states = grouped(alloc, entries, own, others, count)?;
     if (states.len() as u64) < count {
-        let open = states.len() as u64;
-        let gap = first_with_gap(&states, others).unwrap_or(open);
+        let gap = gap_before(&states, others);
         return Err(MachineError::Gap(gap));
     }
     match Machine::make(player, kind, inputs, outputs, states) {
@@ -69,6 +68,18 @@ fn machine_of(
         Err(MachineFault::Gap(state)) => Err(MachineError::Gap(state)),
         Err(MachineFault::NotFirst(state)) => Err(MachineError::NotFirst(state)),
         Err(_) => unreachable!(),
+    }
+}
+
+/// The least state with a gap, where the state behind these ones has no line.
+fn gap_before(states: &[Vec<Line>], others: u32) -> u64
+    requires others_in { others ≤ 64 }
+    requires ranged { All (All (λ l. IsCube others l.when)) (map (λ lines. lines.items) states.now) }
+    ensures { (more : List (List Line)) → IsLeastWithout (IsDecided others) (map (λ lines. lines.items) states.now ++ [] ∷ more) result }
+{
+    match first_with_gap(states, others) {
+        Some(gap) => gap,
+        None => states.len() as u64,
     }
 }
 
@@ -208,6 +219,7 @@ fn is_names_line(line: &[u8], word: &[u8], names: &[String]) -> bool
 /// The number of states, at least 1.
 fn read_count(lines: &mut Lines<'_>) -> Result<u64, BadLine>
     ensures some { IfOk result (λ n. 0 < n) }
+    ensures fits { IfOk result (λ n. n < 2 ^ 64) }
     ensures line { IfOk result (λ n. lines.old.rest.now ≡ count_text n ++ 10 ∷ lines.new.rest.now) }
     ensures taken { IfOk result (λ _. lines.new.taken ≡ lines.old.taken + 1) }
     ensures bad { IfErr result (λ e. (e.0 ≡ lines.old.taken + 1) × NextIsNone IsCountLine lines.old.rest.now) }
