@@ -16,7 +16,7 @@ use Rattle.machine_text.specs.declared.errors.MachineError.{MachineError}
 use Rattle.machine_text.specs.declared.errors.MachineError.TheVariants as error
 use Rattle.machine_text.specs.Fields.{mark, marks_of, pattern, valuation}
 use Rattle.machine_text.specs.Lines.{joined, IsWhole}
-use Rattle.machine_text.specs.Machines.{kind_of, owner_text, spaced, names_text, count_text, line_text, state_lines, states_lines, verdict_text, bound_text, heading_lines, machine_lines, machine_text, IsHeading, IsDraft, IsMachineLines, Spells, HasMachineFault, AreWhole}
+use Rattle.machine_text.specs.Machines.{kind_of, owner_text, spaced, names_text, count_text, line_text, state_lines, states_lines, verdict_text, bound_text, heading_lines, machine_lines, IsHeading, IsDraft, IsMachineLines, Spells, HasMachineFault, AreWhole}
 use Rattle.machine_text.specs.Reading.{HasMakeFault}
 use Rattle.machine_text.proofs.FieldLaws.{same_head, same_tail}
 use Rattle.machine_text.proofs.LineLaws.{joined_append}
@@ -25,7 +25,7 @@ use Rattle.machine_text.proofs.LassoLaws.{valuation_whole}
 use Rattle.machine_text.proofs.GroupLaws.{made}
 use Rattle.machine_text.proofs.EntryLaws.{flat, flat_text, flat_ranged, spread_flat, entries_same}
 use Rattle.machine_text.proofs.MachineLaws.{heads_same, count_same, tail_lines, make_fault}
-use Rattle.machine_text.specs.Reading.{spread, entry_lines}
+use Rattle.machine_text.specs.Reading.{spread}
 
 abbrev not_feed : ℕ → Type 0
 not_feed b = b ≢ 10

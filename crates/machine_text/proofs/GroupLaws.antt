@@ -1,11 +1,10 @@
 -- Entries grouped by states, and what a machine of them lacks.
-use Rattle.std.proofs.Common.{Vec, Global, Bool, true, false, nat_eq, map, ◌≡◌, ℕ, zero, suc, ◌+◌, ◌-◌, ◌<◌, ◌≤◌, ◌^◌, List, [], ◌∷◌, ◌++◌, append_assoc, append-nil, length, get_or, take, drop, refl, sym, ap, ◌∙◌, subst, pow_pos, arith}
+use Rattle.std.proofs.Common.{Vec, Global, map, ◌≡◌, ℕ, suc, ◌+◌, ◌-◌, ◌<◌, ◌≤◌, List, [], ◌∷◌, ◌++◌, append_assoc, append-nil, length, get_or, take, drop, refl, sym, ap, ◌∙◌, subst, pow_pos, arith}
 use Rattle.std.specs.List.{All}
 use Rattle.std.proofs.lemmas.Bool.{ne_eqb}
 use Rattle.std.proofs.lemmas.List.{length-append, length-map, map-append, take_rest, get_or-drop, drop-drop, drop_more, drop_all, get_or_at, get_or_append_left, nil_from_length}
 use Rattle.std.proofs.lemmas.List.Elements.{All-push}
 use Rattle.word_core.specs.declared.machines.Line.{Line}
-use Rattle.word_core.specs.declared.machines.MachineFault.{MachineFault}
 use Rattle.word_core.specs.declared.machines.MachineFault.TheVariants.{Gap}
 use Rattle.word_core.specs.declared.names.Kind.{Kind}
 use Rattle.word_core.specs.declared.names.Player.{Player}

@@ -1,11 +1,11 @@
 -- The lines before those of the states.
-use Rattle.std.proofs.Common.{Result, Ok, Err, IfOk, IfErr, ◌≡◌, ℕ, ◌+◌, ◌<◌, ◌^◌, List, [], ◌∷◌, ◌++◌, append_assoc, length, codes, Option, Some, None, refl, sym, ap, ◌∙◌, subst, arith}
+use Rattle.std.proofs.Common.{Result, Ok, Err, IfOk, IfErr, ◌≡◌, ℕ, ◌+◌, ◌<◌, ◌^◌, List, [], ◌∷◌, ◌++◌, append_assoc, codes, Some, sym, ap, ◌∙◌, subst, arith}
 use Rattle.word_core.specs.declared.names.Kind.{Kind}
 use Rattle.word_core.specs.declared.names.Player.{Player}
 use Rattle.word_core.specs.declared.names.Target.{Target}
 use Rattle.machine_text.specs.declared.errors.BadLine.{BadLine}
 use Rattle.machine_text.specs.Lines.{joined, IsWhole, NextIsNone}
-use Rattle.machine_text.specs.Machines.{kind_of, owner_text, verdict_text, bound_text, heading_lines, IsHeading}
+use Rattle.machine_text.specs.Machines.{kind_of, owner_text, verdict_text, bound_text}
 use Rattle.machine_text.specs.Reading.{IsOwnerLine, IsVerdictLine, IsNumberLine, IsLed, HasNoOwner}
 use Rattle.machine_text.specs.Reading.HasNoOwner.{at_once, no_bound, no_owner}
 use Rattle.machine_text.proofs.LineSplits.{none_without_feed, none_of}

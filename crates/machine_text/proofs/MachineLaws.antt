@@ -1,5 +1,5 @@
 -- The lines of machines, and what follows after some of them.
-use Rattle.std.proofs.Common.{String, Global, Result, Ok, Err, IsErrAnd, IfOk, IfErr, ◌≡◌, ◌≢◌, ℕ, zero, suc, ◌+◌, ◌<◌, ◌≤◌, ◌^◌, List, [], ◌∷◌, ◌++◌, append_assoc, append-nil, length, get_or, codes, Option, Some, None, refl, sym, ap, ◌∙◌, subst, arith}
+use Rattle.std.proofs.Common.{◌≡◌, ℕ, suc, ◌+◌, ◌<◌, ◌^◌, List, [], ◌∷◌, ◌++◌, append_assoc, append-nil, length, get_or, codes, Option, Some, None, refl, sym, ap, ◌∙◌, subst, arith}
 use Rattle.std.specs.List.{All}
 use Rattle.std.specs.Fmt.{decimal}
 use Rattle.std.proofs.lemmas.Fmt.{decimal_injective}
@@ -9,22 +9,19 @@ use Rattle.word_core.specs.declared.names.Kind.{Kind}
 use Rattle.word_core.specs.declared.names.Names.{Names}
 use Rattle.word_core.specs.declared.names.Player.{Player}
 use Rattle.word_core.specs.declared.names.Player.TheVariants.{System, Environment}
-use Rattle.word_core.specs.declared.names.Target.{Target}
-use Rattle.word_core.specs.declared.machines.Line.{Line}
-use Rattle.word_core.specs.declared.machines.MachineFault.TheVariants as fault
-use Rattle.word_core.specs.Machine.{MachineData, IsMachine, IsLine, HasFault, own_of, other_of, own_width, other_width}
+use Rattle.word_core.specs.Machine.{MachineData, IsLine, own_of, other_of, own_width, other_width}
 use Rattle.machine_text.specs.declared.errors.MachineError.{MachineError}
 use Rattle.machine_text.specs.declared.errors.MachineError.TheVariants as error
 use Rattle.machine_text.specs.declared.reading.Entry.{Entry}
-use Rattle.machine_text.specs.Lines.{joined, IsWhole, Begins, NextIsNone, IsBadLine}
-use Rattle.machine_text.specs.Machines.{kind_of, owner_text, names_text, count_text, states_lines, verdict_text, bound_text, heading_lines, machine_lines, machine_text, IsHeading, IsDraft, IsMachineLines, Spells, HasMachineFault}
+use Rattle.machine_text.specs.Lines.{joined, NextIsNone, IsBadLine}
+use Rattle.machine_text.specs.Machines.{kind_of, owner_text, names_text, count_text, states_lines, verdict_text, bound_text, heading_lines, machine_lines, IsHeading, IsDraft, IsMachineLines, Spells, HasMachineFault}
 use Rattle.machine_text.specs.Reading.{IsEntry, IsEntryLine, IsOwnerLine, IsVerdictLine, IsNumberLine, IsCountLine, IsLed, HasNoOwner, AreRead, HasEntryFault, HasMakeFault, entry_lines, spread, last_state, Ascends}
 use Rattle.machine_text.specs.Reading.HasNoOwner.{at_once, no_bound, no_owner}
 use Rattle.machine_text.proofs.FieldLaws.{same_head, same_tail, nil_cons}
 use Rattle.machine_text.proofs.LineLaws.{joined_append}
 use Rattle.machine_text.proofs.HeadLaws.{joined_cons}
 use Rattle.machine_text.proofs.GroupLaws.{made}
-use Rattle.machine_text.proofs.EntryLaws.{behind_entries, flat, flat_text, flat_ascends, flat_ranged, spread_flat, spread_lines, spread_ranged, spread_length, entries_same}
+use Rattle.machine_text.proofs.EntryLaws.{behind_entries, flat, flat_text, flat_ascends, flat_ranged, spread_lines, spread_ranged, spread_length}
 
 -- the first line tells the player, and isn't a verdict
 pub owner_same : (p q : Player) (k j : Kind) → owner_text p k ≡ owner_text q j → p ≡ q

@@ -1,12 +1,11 @@
 -- Entries, as they are read one after another.
-use Rattle.std.proofs.Common.{Bool, true, false, nat_eq, ◌≡◌, ℕ, zero, suc, ◌+◌, ◌<◌, ◌≤◌, List, [], ◌∷◌, ◌++◌, append_assoc, length, refl, sym, ap, ◌∙◌, subst, arith}
-use Rattle.std.specs.List.{All}
+use Rattle.std.proofs.Common.{false, nat_eq, ◌≡◌, ℕ, ◌+◌, ◌≤◌, List, [], ◌∷◌, ◌++◌, append_assoc, length, refl, sym, ap, ◌∙◌, subst, arith}
 use Rattle.std.proofs.lemmas.Bool.{false≢true}
 use Rattle.std.proofs.lemmas.List.{length_push}
 use Rattle.std.proofs.lemmas.List.Elements.{All-push}
 use Rattle.machine_text.specs.declared.errors.MachineError.TheVariants.{Line}
 use Rattle.machine_text.specs.declared.reading.Entry.{Entry}
-use Rattle.machine_text.specs.Lines.{joined, IsWhole, NextIsNone}
+use Rattle.machine_text.specs.Lines.{joined, IsWhole}
 use Rattle.machine_text.specs.Machines.{line_text}
 use Rattle.machine_text.specs.Reading.{IsEntry, IsEntryLine, entry_lines, Ascends, last_state, AreRead, HasEntryFault}
 use Rattle.machine_text.proofs.LineLaws.{joined_append}

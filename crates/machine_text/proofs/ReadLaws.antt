@@ -1,6 +1,5 @@
 -- What readers of single lines find.
-use Rattle.std.proofs.Common.{String, Global, true, false, nat_eq, ◌≡◌, ℕ, suc, ◌+◌, ◌<◌, ◌≤◌, ◌^◌, List, [], ◌∷◌, ◌++◌, append_assoc, append-nil, length, get_or, drop, codes, string_bytes, refl, sym, ap, ◌∙◌, subst, arith}
-use Rattle.std.specs.List.{All}
+use Rattle.std.proofs.Common.{String, Global, false, nat_eq, ◌≡◌, ℕ, ◌+◌, ◌<◌, ◌≤◌, ◌^◌, List, [], ◌∷◌, ◌++◌, append-nil, length, get_or, drop, codes, string_bytes, refl, sym, ap, ◌∙◌, subst, arith}
 use Rattle.std.specs.Fmt.{decimal}
 use Rattle.std.proofs.lemmas.Bool.{false≢true}
 use Rattle.std.proofs.lemmas.List.{append_cancel_left, drop_more}
@@ -8,10 +7,10 @@ use Rattle.word_core.specs.declared.cubes.Cube.{Cube}
 use Rattle.word_core.specs.declared.machines.Line.{Line}
 use Rattle.word_core.specs.Cube.{IsCube}
 use Rattle.machine_text.specs.Fields.{valuation, pattern, begins_with_digit, BeginsWithNoNumber}
-use Rattle.machine_text.specs.Machines.{line_text, spaced, names_text, count_text}
+use Rattle.machine_text.specs.Machines.{line_text, spaced}
 use Rattle.machine_text.specs.Reading.{IsNumberLine, IsCountLine, IsEntryLine}
 use Rattle.machine_text.specs.declared.reading.Entry.{Entry}
-use Rattle.machine_text.proofs.FieldLaws.{same_tail, nil_cons}
+use Rattle.machine_text.proofs.FieldLaws.{same_tail}
 use Rattle.machine_text.proofs.LassoLaws.{valuation_apart}
 use Rattle.machine_text.proofs.EntryLaws.{decimal_apart, pattern_apart, line_parts, line_apart}
 

@@ -1,4 +1,4 @@
-use Rattle.std.proofs.Common.{rules, map, arith, ◌≡◌, ◌+◌, length, ◌∙◌, ap}
+use Rattle.std.proofs.Common.{rules, map, arith, ◌≡◌, length, ◌∙◌, ap}
 use Rattle.std.proofs.lemmas.List.{length_push}
 use Rattle.machine_text.specs.declared.reading.Entry.{Entry}
 use Rattle.machine_text.proofs.GroupLaws.{items, ranged_push, map_pushed, spread_more, grouped_at_end, grouped_at_other}

@@ -1,7 +1,6 @@
-use Rattle.std.proofs.Common.{◌≡◌, ◌+◌, codes}
+use Rattle.std.proofs.Common.{◌≡◌, ◌+◌}
 use Rattle.machine_text.specs.Lines.{NextIsNone}
-use Rattle.machine_text.specs.Machines.{names_text}
-use Rattle.machine_text.specs.Reading.{IsNumberLine, IsCountLine, IsOwnerLine}
+use Rattle.machine_text.specs.Reading.{IsCountLine}
 use Rattle.machine_text.proofs.LineSplits.{none_without_feed, none_of, passed_on}
 use Rattle.machine_text.proofs.ReadLaws.{count_none, count_zero}
 use Rattle.machine_text.proofs.reading.read_count.Goals as goal

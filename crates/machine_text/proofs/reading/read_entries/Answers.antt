@@ -1,4 +1,3 @@
-use Rattle.std.proofs.lemmas.Bool.{both_ways}
 use Rattle.machine_text.specs.declared.errors.MachineError.TheVariants.{Line}
 use Rattle.machine_text.specs.Reading.{HasEntryFault}
 use Rattle.machine_text.proofs.LineSplits.{passed_on}

@@ -1,9 +1,7 @@
-use Rattle.std.proofs.Common.{◌≡◌, ◌+◌, codes}
+use Rattle.std.proofs.Common.{◌≡◌, ◌+◌}
 use Rattle.machine_text.specs.Lines.{NextIsNone}
-use Rattle.machine_text.specs.Machines.{names_text}
-use Rattle.machine_text.specs.Reading.{IsNumberLine, IsCountLine, IsOwnerLine}
+use Rattle.machine_text.specs.Reading.{IsOwnerLine}
 use Rattle.machine_text.proofs.LineSplits.{none_without_feed, none_of, passed_on}
-use Rattle.machine_text.proofs.ReadLaws.{count_none, count_zero}
 use Rattle.machine_text.proofs.reading.read_owner_line.Goals as goal
 
 pub returns-in_err-line-clause-bad : goal.returns-in_err-line-clause-bad
