@@ -22,7 +22,7 @@ doubled_half b v h = omega arith
 doubled_odd : (b v : ℕ) → b < 2 → (b + v * 2) % 2 ≡ b
 doubled_odd b v h = omega arith
 
-odd_below : (v : ℕ) → v % 2 < 2
+pub odd_below : (v : ℕ) → v % 2 < 2
 odd_below v = omega arith
 
 pub half_below : (v w : ℕ) → v < 2 ^ suc w → v / 2 < 2 ^ w
@@ -78,10 +78,10 @@ marks_step w a b c d h k =
     ∙ ap (λ x. mark a b ∷ marks_of w c x) (doubled_half b d k)
 
 -- the want of the lowest signal is a part of its care, and that of the others of theirs
-part_low : (care want : ℕ) → bit_and want care ≡ want → want % 2 ≤ care % 2
+pub part_low : (care want : ℕ) → bit_and want care ≡ want → want % 2 ≤ care % 2
 part_low care want h = let s = and_step want care in omega arith
 
-part_high : (care want : ℕ) → bit_and want care ≡ want → bit_and (want / 2) (care / 2) ≡ want / 2
+pub part_high : (care want : ℕ) → bit_and want care ≡ want → bit_and (want / 2) (care / 2) ≡ want / 2
 part_high care want h = let s = and_step want care in omega arith
 
 part_doubled : (a b c d : ℕ) → a < 2 → b ≤ a → bit_and d c ≡ d → bit_and (b + d * 2) (a + c * 2) ≡ b + d * 2

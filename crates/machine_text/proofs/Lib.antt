@@ -1,5 +1,12 @@
+pub mod BackLaws
 pub mod DigitLaws
+pub mod EntryLaws
 pub mod FieldLaws
+pub mod GroupLaws
+pub mod HeadLaws
 pub mod LassoLaws
 pub mod LineLaws
 pub mod LineSplits
+pub mod MachineLaws
+pub mod ReadEntries
+pub mod ReadLaws

@@ -1,5 +1,6 @@
--- The text of a machine.
-use Rattle.std.specs.Prelude.{ℕ, ◌+◌, List, [], ◌∷◌, ◌++◌, length, codes}
+-- The text of a machine, and which machine a text spells.
+use Rattle.std.specs.Prelude.{◌≡◌, ℕ, ◌+◌, ◌<◌, ◌^◌, List, [], ◌∷◌, ◌++◌, length, codes, Option, Some, None, ⊤}
+use Rattle.std.specs.List.{All}
 use Rattle.std.specs.Fmt.{decimal}
 use Rattle.std.specs.String.{string_bytes}
 use Rattle.std.proofs.Common.{String, Global}
@@ -8,10 +9,15 @@ use Rattle.word_core.specs.declared.names.Kind.TheVariants.{First, Second}
 use Rattle.word_core.specs.declared.names.Names.{Names}
 use Rattle.word_core.specs.declared.names.Player.{Player}
 use Rattle.word_core.specs.declared.names.Player.TheVariants.{System, Environment}
+use Rattle.word_core.specs.declared.names.Target.{Target}
+use Rattle.word_core.specs.declared.names.Target.TheVariants.{Mealy, Moore}
 use Rattle.word_core.specs.declared.machines.Line.{Line}
-use Rattle.word_core.specs.Machine.{MachineData, own_of, other_of}
+use Rattle.word_core.specs.declared.machines.MachineFault.TheVariants as fault
+use Rattle.word_core.specs.Machine.{MachineData, IsLine, HasFault, own_of, other_of}
+use Rattle.machine_text.specs.declared.errors.MachineError.{MachineError}
+use Rattle.machine_text.specs.declared.errors.MachineError.TheVariants as error
 use Rattle.machine_text.specs.Fields.{valuation, pattern}
-use Rattle.machine_text.specs.Lines.{joined}
+use Rattle.machine_text.specs.Lines.{joined, IsWhole, IsBadLine}
 
 abbrev pub player_word : Player → List ℕ
 player_word System = codes "system"
@@ -68,3 +74,59 @@ machine_lines names m =
 
 abbrev pub machine_text : Names → MachineData → List ℕ
 machine_text names m = joined (machine_lines names m)
+
+-- the order of moves of a player's machines under a target
+abbrev pub kind_of : Target → Player → Kind
+kind_of Mealy System = Second
+kind_of Mealy Environment = First
+kind_of Moore System = First
+kind_of Moore Environment = Second
+
+-- the line of a verdict
+abbrev pub verdict_text : Player → List ℕ
+verdict_text System = codes "REALIZABLE"
+verdict_text Environment = codes "UNREALIZABLE"
+
+-- the line of a bound
+abbrev pub bound_text : ℕ → List ℕ
+bound_text bound = codes "bound " ++ decimal bound
+
+-- the two lines that may stand before a machine: a verdict and a bound
+abbrev pub heading_lines : Option (Player × ℕ) → List (List ℕ)
+heading_lines None = []
+heading_lines (Some h) = verdict_text h.0 ∷ bound_text h.1 ∷ []
+
+-- the bound is a number of 64 bits
+abbrev pub IsHeading : Option (Player × ℕ) → Type 0
+IsHeading None = ⊤
+IsHeading (Some h) = h.1 < 2 ^ 64
+
+-- lines over the names and for a player whose kind fits the target. A state may be without lines, and valuations without one
+pub record IsDraft (names : Names) (m : MachineData) : Type 0 where
+  pub kind : m.kind ≡ kind_of names.target m.player
+  pub inputs : m.inputs ≡ length names.inputs.items
+  pub outputs : m.outputs ≡ length names.outputs.items
+  pub begins : 0 < length m.states
+  pub counted : length m.states < 2 ^ 64
+  pub ranged : All (All (IsLine (own_of m) (other_of m) (length m.states))) m.states
+
+-- the grammar: these are the lines of some draft, before which a verdict and a bound may stand
+abbrev pub IsMachineLines : Names → List (List ℕ) → Type 0
+IsMachineLines names lines =
+    (heading : Option (Player × ℕ)) × (m : MachineData) × IsHeading heading × IsDraft names m × (lines ≡ heading_lines heading ++ machine_lines names m)
+
+-- a text spells a draft, from its line `machine` on
+abbrev pub Spells : Names → List ℕ → MachineData → Type 0
+Spells names text m =
+    (heading : Option (Player × ℕ)) × IsHeading heading × IsDraft names m × (text ≡ joined (heading_lines heading) ++ machine_text names m)
+
+-- why a text gives no machine: its first line that isn't as the grammar says, or what the draft that it spells lacks
+abbrev pub HasMachineFault : Names → List ℕ → MachineError → Type 0
+HasMachineFault names text (error.Line n) = IsBadLine (IsMachineLines names) text n
+HasMachineFault names text (error.Gap s) = (m : MachineData) × Spells names text m × HasFault m (fault.Gap s)
+HasMachineFault names text (error.NotFirst s) = (m : MachineData) × Spells names text m × HasFault m (fault.NotFirst s)
+HasMachineFault names text error.Memory = ⊤
+
+-- no name has a line feed
+abbrev pub AreWhole : List (String Global) → Type 0
+AreWhole names = All (λ name. IsWhole (string_bytes name)) names

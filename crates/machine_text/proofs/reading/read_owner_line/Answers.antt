@@ -1,0 +1,16 @@
+use Rattle.std.proofs.Common.{◌≡◌, ◌+◌}
+use Rattle.machine_text.specs.Lines.{NextIsNone}
+use Rattle.machine_text.specs.Reading.{IsOwnerLine}
+use Rattle.machine_text.proofs.LineSplits.{none_without_feed, none_of, passed_on}
+use Rattle.machine_text.proofs.reading.read_owner_line.Goals as goal
+
+pub returns-in_err-line-clause-bad : goal.returns-in_err-line-clause-bad
+returns-in_err-line-clause-bad c =
+    passed_on c.from_residual.result c.in_err-line.field-0.0 (λ e. (e.0 ≡ c.args.lines.now.taken + 1) × NextIsNone (IsOwnerLine c.args.target) c.args.lines.now.rest.now) c.from_residual.ensures.1
+    (c.in_err-line.ensures.bad, none_without_feed (IsOwnerLine c.args.target) c.args.lines.now.rest.now c.in_err-line.ensures.none)
+
+pub returns-in-None-clause-bad : goal.returns-in-None-clause-bad
+returns-in-None-clause-bad c = (
+  c.in_ok-line.ensures.counted,
+  none_of (IsOwnerLine c.args.target) c.args.lines.now.rest.now c.in_ok-line.line.now c.next.new.self.rest.now c.in_ok-line.ensures.whole c.in_ok-line.ensures.fed (c.in-None.ensures),
+)
