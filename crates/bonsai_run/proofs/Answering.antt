@@ -12,6 +12,7 @@ use Rattle.ltl_form.specs.Meaning.{holds_at}
 use Rattle.tlsf_basic.specs.declared.specifications.Spec.{Spec}
 use Rattle.tlsf_basic.specs.Specification.{IsSpec, signal_count}
 use Rattle.machine_text.specs.Lassos.{IsLasso, lasso_text}
+use Rattle.machine_text.specs.Machines.{Spells}
 use Rattle.game_form.specs.Game.{GameData, lanes}
 use Rattle.game_form.specs.Held.{HasHeld}
 use Rattle.dual_game.specs.declared.games.Pair.{Pair}
@@ -21,7 +22,7 @@ use Rattle.bonsai_words.specs.Ordered.{Asked}
 use Rattle.bonsai_words.specs.Ordered.Asked.{synth, downset, check, eval, gen}
 use Rattle.bonsai_run.specs.declared.answers.Answer.{Answer}
 use Rattle.bonsai_run.specs.declared.verdicts.Verdict.{Verdict}
-use Rattle.bonsai_run.specs.Texts.{IsUnder, IsSpecOf, IsLassoOf}
+use Rattle.bonsai_run.specs.Texts.{IsUnder, IsSpecOf, IsLassoOf, IsMachineIn}
 use Rattle.bonsai_run.specs.Answers.{IsAnswer, IsWord, IsVerdict, bounds_of, verdict_of, verdict_text, verdict_comment, downset_text}
 use Rattle.bonsai_run.proofs.Satisfied.{satisfied, alone, kept_avoids}
 use Rattle.bonsai_run.specs.Answers.IsAnswer.{decided, held, valid, over, holds, fails, generated}
@@ -44,16 +45,16 @@ module _ (texts : Option Texts) where
       → IsAnswer texts (downset name player bound as_written) s t
   is_downset name player bound as_written spec a g vectors s t of accepts is all h k = answer_as _ s _ t _ h k (held name player bound as_written spec a g vectors of accepts is all)
 
-  pub is_valid : (name machine : List ℕ) (bound : ℕ) (as_written : Bool) (spec : Spec) (text : List ℕ) (m : MachineData) (a : AutomatonData) (s : ℕ) (t : List ℕ)
-      → IsSpecOf texts name as_written spec → IsUnder texts machine text → IsAutomatonOf spec.formula m.player a → Keeps a m bound → s ≡ 0 → t ≡ codes "VALID" ++ codes "\n"
+  pub is_valid : (name machine : List ℕ) (bound : ℕ) (as_written : Bool) (spec : Spec) (m : MachineData) (a : AutomatonData) (s : ℕ) (t : List ℕ)
+      → IsSpecOf texts name as_written spec → IsMachineIn texts machine spec m → IsAutomatonOf spec.formula m.player a → Keeps a m bound → s ≡ 0 → t ≡ codes "VALID" ++ codes "\n"
       → IsAnswer texts (check name machine bound as_written) s t
-  is_valid name machine bound as_written spec text m a s t of under accepts keeps h k =
-      answer_as _ s _ t _ h k (valid name machine bound as_written spec text m a of under accepts keeps (kept_avoids spec.formula m.player a m bound accepts keeps))
+  is_valid name machine bound as_written spec m a s t of under accepts keeps h k =
+      answer_as _ s _ t _ h k (valid name machine bound as_written spec m a of under accepts keeps (kept_avoids spec.formula m.player a m bound accepts keeps))
 
-  pub is_over : (name machine : List ℕ) (bound : ℕ) (as_written : Bool) (spec : Spec) (text : List ℕ) (m : MachineData) (a : AutomatonData) (s : ℕ) (t : List ℕ)
-      → IsSpecOf texts name as_written spec → IsUnder texts machine text → IsAutomatonOf spec.formula m.player a → (Keeps a m bound → ⊥) → s ≡ 40 → t ≡ codes "OVER" ++ codes "\n"
+  pub is_over : (name machine : List ℕ) (bound : ℕ) (as_written : Bool) (spec : Spec) (m : MachineData) (a : AutomatonData) (s : ℕ) (t : List ℕ)
+      → IsSpecOf texts name as_written spec → IsMachineIn texts machine spec m → IsAutomatonOf spec.formula m.player a → (Keeps a m bound → ⊥) → s ≡ 40 → t ≡ codes "OVER" ++ codes "\n"
       → IsAnswer texts (check name machine bound as_written) s t
-  is_over name machine bound as_written spec text m a s t of under accepts keeps h k = answer_as _ s _ t _ h k (over name machine bound as_written spec text m a of under accepts keeps)
+  is_over name machine bound as_written spec m a s t of under accepts keeps h k = answer_as _ s _ t _ h k (over name machine bound as_written spec m a of under accepts keeps)
 
   pub is_holds : (name lasso : List ℕ) (as_written : Bool) (spec : Spec) (w : LassoData) (s : ℕ) (t : List ℕ)
       → IsSpecOf texts name as_written spec → IsLassoOf texts lasso spec w → holds_at w spec.formula 0 ≡ true → s ≡ 0 → t ≡ codes "HOLDS" ++ codes "\n"
@@ -73,15 +74,15 @@ module _ (texts : Option Texts) where
 
   -- of a machine whose bound was kept or not
   pub is_checked : (name machine : List ℕ) (bound : ℕ) (as_written : Bool) (spec : Spec) (text : List ℕ) (m : MachineData) (a : AutomatonData) (kept : Bool) (answer : Answer)
-      → IsSpecOf texts name as_written spec → IsUnder texts machine text → IsAutomatonOf spec.formula m.player a → IsTrue kept ↔ Keeps a m bound
+      → IsSpecOf texts name as_written spec → IsUnder texts machine text → Spells spec.names text m → IsAutomatonOf spec.formula m.player a → IsTrue kept ↔ Keeps a m bound
       → (kept ≡ true → IsWord 0 (codes "VALID") answer) → (kept ≡ false → IsWord 40 (codes "OVER") answer)
       → IsAnswer texts (check name machine bound as_written) answer.status answer.text.items
-  is_checked name machine bound as_written spec text m a true answer of under accepts keeps yes_word no_word =
+  is_checked name machine bound as_written spec text m a true answer of under spells accepts keeps yes_word no_word =
       let w = yes_word refl in
-      is_valid name machine bound as_written spec text m a answer.status answer.text.items of under accepts (keeps.0 refl) w.0 w.1
-  is_checked name machine bound as_written spec text m a false answer of under accepts keeps yes_word no_word =
+      is_valid name machine bound as_written spec m a answer.status answer.text.items of (record { text = text; under = under; spells = spells }) accepts (keeps.0 refl) w.0 w.1
+  is_checked name machine bound as_written spec text m a false answer of under spells accepts keeps yes_word no_word =
       let w = no_word refl in
-      is_over name machine bound as_written spec text m a answer.status answer.text.items of under accepts (λ k. false≢true (keeps.1 k)) w.0 w.1
+      is_over name machine bound as_written spec m a answer.status answer.text.items of (record { text = text; under = under; spells = spells }) accepts (λ k. false≢true (keeps.1 k)) w.0 w.1
 
   -- of a formula that held or not
   pub is_evaluated : (name lasso : List ℕ) (as_written : Bool) (spec : Spec) (w : LassoData) (held : Bool) (answer : Answer)

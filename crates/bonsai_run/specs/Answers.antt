@@ -26,7 +26,7 @@ use Rattle.machine_text.specs.Machines.{machine_text, player_word}
 use Rattle.spec_gen.specs.Arbiter.{arbiter_text}
 use Rattle.bonsai_words.specs.Ordered.{Asked}
 use Rattle.bonsai_words.specs.Ordered.Asked.{synth, downset, check, eval, gen}
-use Rattle.bonsai_run.specs.Texts.{IsUnder, IsSpecOf, IsLassoOf}
+use Rattle.bonsai_run.specs.Texts.{IsSpecOf, IsLassoOf, IsMachineIn}
 use Rattle.bonsai_run.specs.declared.answers.Answer.{Answer}
 use Rattle.bonsai_run.specs.declared.verdicts.Verdict.{Verdict}
 use Rattle.bonsai_run.specs.declared.verdicts.Verdict.TheVariants.{Won, Unknown}
@@ -130,12 +130,12 @@ pub data IsAnswer (texts : Option Texts) : Asked → ℕ → List ℕ → Type 0
   held : (name : List ℕ) (player : Player) (bound : ℕ) (as_written : Bool) (spec : Spec) (a : AutomatonData) (g : GameData) (vectors : List (List ℤ))
       → IsSpecOf texts name as_written spec → IsAutomatonOf spec.formula player a → IsGameOf a spec.names player bound g → HasHeld g vectors
       → IsAnswer texts (downset name player bound as_written) 0 (downset_text player bound (lanes g) vectors)
-  valid : (name machine : List ℕ) (bound : ℕ) (as_written : Bool) (spec : Spec) (text : List ℕ) (m : MachineData) (a : AutomatonData)
-      → IsSpecOf texts name as_written spec → IsUnder texts machine text → IsAutomatonOf spec.formula m.player a → Keeps a m bound
+  valid : (name machine : List ℕ) (bound : ℕ) (as_written : Bool) (spec : Spec) (m : MachineData) (a : AutomatonData)
+      → IsSpecOf texts name as_written spec → IsMachineIn texts machine spec m → IsAutomatonOf spec.formula m.player a → Keeps a m bound
       → ((w : LassoData) → 0 < length w.cycle → IsLassoPlay m w → avoided m.player (holds_at w spec.formula 0) ≡ false)
       → IsAnswer texts (check name machine bound as_written) 0 (codes "VALID\n")
-  over : (name machine : List ℕ) (bound : ℕ) (as_written : Bool) (spec : Spec) (text : List ℕ) (m : MachineData) (a : AutomatonData)
-      → IsSpecOf texts name as_written spec → IsUnder texts machine text → IsAutomatonOf spec.formula m.player a → (Keeps a m bound → ⊥)
+  over : (name machine : List ℕ) (bound : ℕ) (as_written : Bool) (spec : Spec) (m : MachineData) (a : AutomatonData)
+      → IsSpecOf texts name as_written spec → IsMachineIn texts machine spec m → IsAutomatonOf spec.formula m.player a → (Keeps a m bound → ⊥)
       → IsAnswer texts (check name machine bound as_written) 40 (codes "OVER\n")
   holds : (name lasso : List ℕ) (as_written : Bool) (spec : Spec) (w : LassoData)
       → IsSpecOf texts name as_written spec → IsLassoOf texts lasso spec w → holds_at w spec.formula 0 ≡ true

@@ -4,7 +4,9 @@ use Rattle.shelf_io.specs.Texts.{Texts, text_of}
 use Rattle.tlsf_basic.specs.declared.specifications.Spec.{Spec}
 use Rattle.tlsf_basic.specs.Specification.{IsSpec, signal_count}
 use Rattle.word_core.specs.Lasso.{LassoData}
+use Rattle.word_core.specs.Machine.{MachineData}
 use Rattle.machine_text.specs.Lassos.{IsLasso, lasso_text}
+use Rattle.machine_text.specs.Machines.{Spells}
 
 -- the text under a name, where the shelf tells its texts
 abbrev pub IsUnder : Option Texts → List ℕ → List ℕ → Type 0
@@ -20,6 +22,12 @@ pub record IsSpecOf (texts : Option Texts) (name : List ℕ) (as_written : Bool)
 -- the text under a name is that of a lasso over the specification's signals
 abbrev pub IsLassoOf : Option Texts → List ℕ → Spec → LassoData → Type 0
 IsLassoOf texts name spec w = IsLasso (signal_count spec.names) w × IsUnder texts name (lasso_text (signal_count spec.names) w)
+
+-- the text under a name is that of a machine over the specification's names, perhaps behind a verdict and a bound
+pub record IsMachineIn (texts : Option Texts) (name : List ℕ) (spec : Spec) (m : MachineData) : Type 0 where
+  pub text : List ℕ
+  pub under : IsUnder texts name text
+  pub spells : Spells spec.names text m
 
 -- there is a longer text under a name
 abbrev pub IsTooLong : Option Texts → List ℕ → Type 0
