@@ -1,3 +1,5 @@
+pub mod Begun
+pub mod Boarded
 pub mod Boxes
 pub mod ColumnReads
 pub mod EntriesHeld
@@ -18,5 +20,6 @@ pub mod Places
 pub mod Replacements
 pub mod Settled
 pub mod Unders
+pub mod Unique
 pub mod Weaker
 pub mod Works

@@ -4,6 +4,7 @@ pub mod Commit
 pub mod Entries
 pub mod Front
 pub mod Known
+pub mod Laws
 pub mod Pending
 pub mod Plan
 pub mod Remains

@@ -7,6 +7,7 @@ mod exchanges;
 mod fronts;
 mod games;
 mod jobs;
+mod laws;
 mod looks;
 mod marks;
 mod plans;
@@ -17,4 +18,5 @@ mod solvers;
 
 pub use boards::{Board, Committed};
 pub use jobs::{Job, Outcome, work};
+pub use laws::{closed_is_held, held_is_closed, held_is_one};
 pub use solvers::{Solved, solve, solve_alone};

@@ -1,0 +1,23 @@
+-- Laws of closed lists and held vectors.
+use Rattle.std.specs.Prelude.{◌≡◌, ℤ, true, List}
+use Rattle.antichain_list.specs.Antichain.{IsAntichain, covered}
+use Rattle.counter_vec.specs.Counters.{at_or_below, lexicographic}
+use Rattle.game_form.specs.Covering.{CoversLetters}
+use Rattle.game_form.specs.Game.{GameData, IsGame}
+use Rattle.game_form.specs.Held.{HasHeld, IsHeld}
+use Rattle.game_form.specs.Letters.{HasLetters}
+use Rattle.game_form.specs.Vector.{IsVector}
+use Rattle.game_core.specs.Solved.{IsClosed}
+
+-- every vector at or below a member of a closed list is held
+abbrev pub ClosedIsHeld : Type 0
+ClosedIsHeld = (g : GameData) (list : List (List ℤ)) (v : List ℤ) → IsGame g → HasLetters g → IsClosed g list → IsVector g v → covered at_or_below v list ≡ true → IsHeld g v
+
+-- the maximal held vectors are a closed list
+abbrev pub HeldIsClosed : Type 0
+HeldIsClosed = (g : GameData) (list : List (List ℤ)) → IsGame g → CoversLetters g → HasHeld g list → IsClosed g list
+
+-- at most one ascending antichain is the list of the maximal held vectors
+abbrev pub HeldIsOne : Type 0
+HeldIsOne =
+    (g : GameData) (list other : List (List ℤ)) → IsAntichain at_or_below lexicographic list → IsAntichain at_or_below lexicographic other → HasHeld g list → HasHeld g other → list ≡ other

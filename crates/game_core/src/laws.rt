@@ -1,0 +1,18 @@
+//! Laws of closed lists and held vectors.
+
+ghost use Rattle.game_core.specs.Laws.{ClosedIsHeld, HeldIsClosed, HeldIsOne};
+
+/// Every vector at or below a member of a closed list is held, by a machine whose states are vectors of the list.
+pub fn closed_is_held()
+    ensures { ClosedIsHeld }
+{}
+
+/// The maximal held vectors are a closed list: from each of them the player can answer one step.
+pub fn held_is_closed()
+    ensures { HeldIsClosed }
+{}
+
+/// At most one ascending antichain is the list of the maximal held vectors.
+pub fn held_is_one()
+    ensures { HeldIsOne }
+{}
