@@ -43,7 +43,7 @@ held_from_covers g list covers = record { all = held_covered g list covers }
 pub top_covers_held : (g : GameData) → CoversHeld g (top g ∷ [])
 top_covers_held g = held_from_covers g (top g ∷ []) (top_covers g)
 
-left_covers : (b c d : Bool) → d ≡ (b && c) → b ≡ true → c ≡ true → d ≡ true
+pub left_covers : (b c d : Bool) → d ≡ (b && c) → b ≡ true → c ≡ true → d ≡ true
 left_covers b c d e h k = rw (h, k) at e
 
 -- the maximal held vectors are a closed list

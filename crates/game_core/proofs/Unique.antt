@@ -6,6 +6,8 @@ use Rattle.std.specs.declared.cmp.Ordering.TheVariants.{Less, Equal, Greater}
 use Rattle.antichain_list.specs.Antichain.{IsAntichain, IsFirst, IsEntryOrder}
 use Rattle.counter_vec.specs.Counters.{at_or_below, lexicographic}
 use Rattle.counter_vec.specs.Orders.{counters_order}
+use Rattle.std.proofs.lemmas.List.Elements.{recursion_from_All}
+use Rattle.game_core.specs.Solved.{IsLost, IsSettled}
 use Rattle.game_core.specs.Front.{under}
 use Rattle.game_core.proofs.Boxes.{IsOf}
 use Rattle.std.specs.List.{AllByRecursion}
@@ -124,3 +126,16 @@ left_unique g list f xs ys h k = one_list xs ys h.antichain k.antichain (above x
     above vs ws h k v inside =
         let is : IsVector g v = member_has (IsVector g) v vs h.vectors inside in
         k.covers v is ∙ sym (h.covers v is) ∙ self_under v vs inside
+
+-- at most one ascending antichain is an answer
+pub settled_unique : (g : GameData) (whole : Bool) (xs ys : List (List ℤ)) → IsAntichain at_or_below lexicographic xs → IsAntichain at_or_below lexicographic ys
+    → IsSettled g whole xs → IsSettled g whole ys → xs ≡ ys
+settled_unique g whole xs ys a b h k = one_list xs ys a b (above xs ys h k) (above ys xs k h)
+  where
+    above : (vs ws : List (List ℤ)) → IsSettled g whole vs → IsSettled g whole ws → (v : List ℤ) → IsOf v vs → under ws v ≡ true
+    above vs ws h k v inside =
+        member_has (λ e. under ws e ≡ true) v vs
+        (recursion_from_All (λ e. under ws e ≡ true) vs (k.largest vs (record { vectors = h.vectors; closed = h.closed }))) inside
+
+pub never_both : (g : GameData) (whole : Bool) (list : List (List ℤ)) → IsSettled g whole list → IsLost g whole → ⊥
+never_both g whole list h lost = true≢false (sym (h.begins lost.asked) ∙ lost.missed list (record { vectors = h.vectors; closed = h.closed }))

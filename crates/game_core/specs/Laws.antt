@@ -1,5 +1,5 @@
 -- Laws of closed lists and held vectors.
-use Rattle.std.specs.Prelude.{◌≡◌, ℤ, true, List}
+use Rattle.std.specs.Prelude.{◌≡◌, ℤ, Bool, true, List}
 use Rattle.antichain_list.specs.Antichain.{IsAntichain, covered}
 use Rattle.counter_vec.specs.Counters.{at_or_below, lexicographic}
 use Rattle.game_form.specs.Covering.{CoversLetters}
@@ -7,7 +7,7 @@ use Rattle.game_form.specs.Game.{GameData, IsGame}
 use Rattle.game_form.specs.Held.{HasHeld, IsHeld}
 use Rattle.game_form.specs.Letters.{HasLetters}
 use Rattle.game_form.specs.Vector.{IsVector}
-use Rattle.game_core.specs.Solved.{IsClosed}
+use Rattle.game_core.specs.Solved.{IsClosed, IsLost, IsSettled}
 
 -- every vector at or below a member of a closed list is held
 abbrev pub ClosedIsHeld : Type 0
@@ -21,3 +21,12 @@ HeldIsClosed = (g : GameData) (list : List (List ℤ)) → IsGame g → CoversLe
 abbrev pub HeldIsOne : Type 0
 HeldIsOne =
     (g : GameData) (list other : List (List ℤ)) → IsAntichain at_or_below lexicographic list → IsAntichain at_or_below lexicographic other → HasHeld g list → HasHeld g other → list ≡ other
+
+-- a game has one answer: the list is one, and where the initial vector is lost there is none
+pub record IsOneAnswer (g : GameData) (whole : Bool) : Type 0 where
+  pub list : (list other : List (List ℤ)) → IsAntichain at_or_below lexicographic list → IsAntichain at_or_below lexicographic other
+      → IsSettled g whole list → IsSettled g whole other → list ≡ other
+  pub lost : (list : List (List ℤ)) → IsSettled g whole list → IsLost g whole → ⊥
+
+abbrev pub AnswerIsOne : Type 0
+AnswerIsOne = (g : GameData) (whole : Bool) → IsOneAnswer g whole

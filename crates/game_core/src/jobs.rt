@@ -68,6 +68,7 @@ impl Job {
 }
 
 impl Outcome {
+    ghost use Rattle.std.specs.Prelude.{option_map};
     ghost use Rattle.game_core.specs.Board.{IsOutcome};
 
     /// What is known of every outcome: from its entry the player can stay in its list, or else what is left of the
@@ -76,6 +77,20 @@ impl Outcome {
         ensures { IsOutcome self.now }
     {
         let _ = &self.left;
+    }
+
+    /// The entry that was looked at.
+    pub fn entry(&self) -> &Counters
+        ensures { result.now ≡ self.now.entry }
+    {
+        &self.entry
+    }
+
+    /// What is left of the entry. None where it is kept.
+    pub fn left(&self) -> Option<&Vec<Counters>>
+        ensures { option_map (λ v. v.now.items) result ≡ self.now.left }
+    {
+        self.left.as_ref()
     }
 }
 

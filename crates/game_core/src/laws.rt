@@ -1,6 +1,6 @@
 //! Laws of closed lists and held vectors.
 
-ghost use Rattle.game_core.specs.Laws.{ClosedIsHeld, HeldIsClosed, HeldIsOne};
+ghost use Rattle.game_core.specs.Laws.{AnswerIsOne, ClosedIsHeld, HeldIsClosed, HeldIsOne};
 
 /// Every vector at or below a member of a closed list is held, by a machine whose states are vectors of the list.
 pub fn closed_is_held()
@@ -15,4 +15,10 @@ pub fn held_is_closed()
 /// At most one ascending antichain is the list of the maximal held vectors.
 pub fn held_is_one()
     ensures { HeldIsOne }
+{}
+
+/// A game has one answer, also where its classes aren't those of its letters. So `solve`, `finish` and `solve_logged`
+/// give equal lists, or are Lost together.
+pub fn answer_is_one()
+    ensures { AnswerIsOne }
 {}

@@ -4,6 +4,7 @@
 mod boards;
 mod commits;
 mod exchanges;
+mod finishes;
 mod fronts;
 mod games;
 mod jobs;
@@ -12,11 +13,15 @@ mod looks;
 mod marks;
 mod plans;
 mod refinements;
+mod rounds;
 mod sames;
 mod searches;
 mod solvers;
+mod steps;
 
 pub use boards::{Board, Committed};
+pub use finishes::{finish, solve_logged};
 pub use jobs::{Job, Outcome, work};
-pub use laws::{closed_is_held, held_is_closed, held_is_one};
+pub use laws::{answer_is_one, closed_is_held, held_is_closed, held_is_one};
 pub use solvers::{Solved, solve, solve_alone};
+pub use steps::Step;
