@@ -18,6 +18,7 @@ pub mod PendingMarks
 pub mod Pieces
 pub mod Places
 pub mod Replacements
+pub mod Replayed
 pub mod Runs
 pub mod Settled
 pub mod Unders

@@ -12,3 +12,4 @@ pub mod Remains
 pub mod Rounds
 pub mod Solved
 pub mod Tried
+pub mod World
