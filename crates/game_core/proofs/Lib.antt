@@ -2,6 +2,7 @@ pub mod Begun
 pub mod Boarded
 pub mod Boxes
 pub mod ColumnReads
+pub mod Determined
 pub mod EntriesHeld
 pub mod Exact
 pub mod Extents

@@ -107,7 +107,7 @@ count_falls (true ∷ marks) (suc p) lt h = count_falls marks p (omega arith) h
 count_falls (false ∷ marks) (suc p) lt h = let r = count_falls marks p (omega arith) h in omega (arith, r)
 
 -- each entry stands at one place
-one_place : (vs : List (List ℤ)) (i j : ℕ) → AllPairs IsApart vs → i < length vs → j < length vs → entry_at vs i ≡ entry_at vs j → i ≡ j
+pub one_place : (vs : List (List ℤ)) (i j : ℕ) → AllPairs IsApart vs → i < length vs → j < length vs → entry_at vs i ≡ entry_at vs j → i ≡ j
 one_place vs i j apart in_i in_j e = go (cases_lt i j)
   where
     below : at_or_below (entry_at vs i) (entry_at vs j) ≡ true

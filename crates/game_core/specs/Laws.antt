@@ -7,7 +7,11 @@ use Rattle.game_form.specs.Game.{GameData, IsGame}
 use Rattle.game_form.specs.Held.{HasHeld, IsHeld}
 use Rattle.game_form.specs.Letters.{HasLetters}
 use Rattle.game_form.specs.Vector.{IsVector}
+use Rattle.game_core.specs.declared.events.Event.{Event}
+use Rattle.game_core.specs.declared.events.Played.{Played}
+use Rattle.game_core.specs.Board.{IsBoard}
 use Rattle.game_core.specs.Solved.{IsClosed, IsLost, IsSettled}
+use Rattle.game_core.specs.World.{WorldData, Plays}
 
 -- every vector at or below a member of a closed list is held
 abbrev pub ClosedIsHeld : Type 0
@@ -30,3 +34,7 @@ pub record IsOneAnswer (g : GameData) (whole : Bool) : Type 0 where
 
 abbrev pub AnswerIsOne : Type 0
 AnswerIsOne = (g : GameData) (whole : Bool) → IsOneAnswer g whole
+
+-- what an event does to a world, and what is answered, is determined
+abbrev pub PlayIsOne : Type 0
+PlayIsOne = (w : WorldData) (e : Event) (after other : WorldData) (said answer : Played) → IsBoard w.board → Plays w e after said → Plays w e other answer → (after ≡ other) × (said ≡ answer)

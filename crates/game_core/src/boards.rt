@@ -85,7 +85,8 @@ impl Board {
         requires covers { CoversHeld g.value list }
         ensures { IfOk result (λ b. b ≡ record { game = g.value; list = list; marks = replicate (length list) false }) }
     {
-        let marks = vec![in alloc; false; list.len()]?;
+        let count = list.len();
+        let marks = vec![in alloc; false; count]?;
         let list = Arc::new(alloc, list)?;
         Ok(Board {
             game: g,

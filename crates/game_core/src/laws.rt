@@ -1,6 +1,6 @@
 //! Laws of closed lists and held vectors.
 
-ghost use Rattle.game_core.specs.Laws.{AnswerIsOne, ClosedIsHeld, HeldIsClosed, HeldIsOne};
+ghost use Rattle.game_core.specs.Laws.{AnswerIsOne, ClosedIsHeld, HeldIsClosed, HeldIsOne, PlayIsOne};
 
 /// Every vector at or below a member of a closed list is held, by a machine whose states are vectors of the list.
 pub fn closed_is_held()
@@ -21,4 +21,10 @@ pub fn held_is_one()
 /// give equal lists, or are Lost together.
 pub fn answer_is_one()
     ensures { AnswerIsOne }
+{}
+
+/// What an event does to a world, and what is answered, is determined: so the world and the answers after a list of
+/// events are a function of the list.
+pub fn play_is_one()
+    ensures { PlayIsOne }
 {}

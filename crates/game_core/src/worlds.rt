@@ -186,7 +186,8 @@ impl World {
     /// Want of memory leaves the world as it is.
     pub fn play(&mut self, alloc: Global, e: Event) -> Result<Played, AllocError>
         requires { worker_of e < length self.old.numbers }
-        ensures { MatchResult result (Plays self.old e self.new) (λ _. self.new ≡ self.old) }
+        ensures plays { MatchResult result (Plays self.old e self.new) (λ _. self.new ≡ self.old) }
+        ensures workers { length self.new.numbers ≡ length self.old.numbers }
     {
         match e {
             Event::Draw { worker } => Ok(Played::Drawn(self.draw(worker as usize))),
@@ -204,6 +205,7 @@ impl World {
     ) -> Result<(World, Vec<Played>), AllocError>
         requires { All (λ e. worker_of e < workers) events.now }
         ensures replays { IfOk result (λ r. Replays (opened_world g.value workers) events.now r.0 r.1.items) }
+        ensures workers { IfOk result (λ r. length r.0.numbers ≡ workers) }
         ensures game { IfOk result (λ r. r.0.board.game ≡ g.value) }
         ensures board { IfOk result (λ r. IsBoard r.0.board) }
         ensures jobs { IfOk result (λ r. All (λ j. IfSome j IsJob) r.0.jobs) }

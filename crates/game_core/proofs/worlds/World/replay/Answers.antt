@@ -9,7 +9,7 @@ use Rattle.game_core.specs.declared.events.Event.TheVariants.{Draw}
 use Rattle.game_core.specs.Solved.{IsClosed}
 use Rattle.game_core.specs.World.{Replays, WorldData, opened_world}
 use Rattle.game_core.proofs.Boarded.{board_closed, board_held}
-use Rattle.game_core.proofs.Replayed.{play_workers, plays_next, plays_none, replay_game, replays_all}
+use Rattle.game_core.proofs.Replayed.{plays_next, plays_none, replay_game, replays_all}
 use Rattle.game_core.proofs.worlds.World.replay.Goals as goal
 
 pub loop-e-init : goal.loop-e-init
@@ -21,8 +21,8 @@ loop-e-init c = (
 pub loop-e-preserved : goal.loop-e-preserved
 loop-e-preserved c = (
   plays_next (opened_world c.args.g.value c.args.workers) c.loop-e.world c.play.new.self c.args.events.now c.loop-e.e-index (Draw 0) c.loop-e.answers.items c.push.new.self.items
-      c.in_ok-play.field-0 c.loop-e-test.true c.loop-e.invariant.0 c.in_ok-play.ensures c.in_ok-push.ensures.items,
-  play_workers c.loop-e.world _ c.play.new.self c.in_ok-play.field-0 c.in_ok-play.ensures ∙ c.loop-e.invariant.1,
+      c.in_ok-play.field-0 c.loop-e-test.true c.loop-e.invariant.0 c.in_ok-play.ensures.plays c.in_ok-push.ensures.items,
+  c.in_ok-play.ensures.workers ∙ c.loop-e.invariant.1,
 )
 
 game_is : (c : goal.After-known-2) → c.loop-e.world.board.game ≡ c.args.g.value
