@@ -1,7 +1,6 @@
 -- What an event does is determined.
-use Rattle.std.proofs.Common.{◌≡◌, ℕ, ◌<◌, true, false, List, length, Option, Some, None, refl, sym, ◌∙◌, ap, subst, true≢false}
+use Rattle.std.proofs.Common.{◌≡◌, ℕ, List, Option, Some, None, refl, sym, ◌∙◌, ap, subst, true≢false}
 use Rattle.std.specs.Prelude.{ℤ}
-use Rattle.std.specs.List.{AllPairs}
 use Rattle.game_form.specs.Game.{GameData}
 use Rattle.game_core.specs.declared.boards.Committed.{Committed}
 use Rattle.game_core.specs.declared.boards.Committed.TheVariants.{Fresh, Replaced, Stale, Gone, Other}
@@ -9,10 +8,9 @@ use Rattle.game_core.specs.declared.events.Event.{Event}
 use Rattle.game_core.specs.declared.events.Event.TheVariants.{Draw, Claim, Commit}
 use Rattle.game_core.specs.declared.events.Played.{Played}
 use Rattle.game_core.specs.declared.events.Played.TheVariants.{Done}
-use Rattle.game_core.specs.Board.{BoardData, IsAt, IsBoard, IsLeft, IsWork, JobData, OutcomeData, entry_at}
+use Rattle.game_core.specs.Board.{BoardData, IsAt, IsBoard, IsLeft, IsWork, JobData, OutcomeData}
 use Rattle.game_core.specs.Commit.{Commits, exchanged, marked}
-use Rattle.game_core.specs.Front.{IsApart}
-use Rattle.game_core.specs.World.{WorldData, Claims, CommitsHeld, CommitsJob, Plays, after_commit, job_at, number_at}
+use Rattle.game_core.specs.World.{WorldData, Claims, CommitsHeld, Plays, after_commit, job_at, number_at}
 use Rattle.game_core.proofs.Exact.{apart_from}
 use Rattle.game_core.proofs.Runs.{one_place}
 use Rattle.game_core.proofs.Unique.{left_unique}
@@ -30,7 +28,7 @@ left_one g snapshot f None (Some b) h k = absurd (true≢false (sym h ∙ k.0))
 left_one g snapshot f (Some a) None h k = absurd (true≢false (sym k ∙ h.0))
 left_one g snapshot f (Some a) (Some b) h k = ap (λ l. Some l) (left_unique g snapshot f a b h.1 k.1)
 
-outcome_same : (g h : GameData) (s t : List (List ℤ)) (f e : List ℤ) (a b : Option (List (List ℤ))) → g ≡ h → s ≡ t → f ≡ e → a ≡ b
+pub outcome_same : (g h : GameData) (s t : List (List ℤ)) (f e : List ℤ) (a b : Option (List (List ℤ))) → g ≡ h → s ≡ t → f ≡ e → a ≡ b
     → (let o : OutcomeData = record { game = g; snapshot = s; entry = f; left = a } in o) ≡ (let o : OutcomeData = record { game = h; snapshot = t; entry = e; left = b } in o)
 outcome_same g h s t f e a b i j k l = cc
 

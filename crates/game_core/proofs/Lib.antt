@@ -13,6 +13,7 @@ pub mod Greatest
 pub mod Kept
 pub mod KeptCovered
 pub mod Lists
+pub mod Moments
 pub mod Options
 pub mod Orders
 pub mod PendingMarks

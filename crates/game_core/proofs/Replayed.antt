@@ -24,7 +24,7 @@ claim_some b number job some e = go (open_count b.marks) some ∙ ap (λ j. Some
     go (suc n) h = refl
 
 -- a commit keeps the game
-commit_game : (b : BoardData) (o : OutcomeData) (after : BoardData) (done : Committed) → Commits b o after done → after.game ≡ b.game
+pub commit_game : (b : BoardData) (o : OutcomeData) (after : BoardData) (done : Committed) → Commits b o after done → after.game ≡ b.game
 commit_game b o after Fresh h = ap (λ (b : BoardData). b.game) h.3.2
 commit_game b o after Replaced h = ap (λ (b : BoardData). b.game) h.1.2.2
 commit_game b o after Stale h = ap (λ (b : BoardData). b.game) h.4

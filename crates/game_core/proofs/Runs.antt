@@ -1,5 +1,5 @@
 -- What a commit does with the outcome of a board's first job.
-use Rattle.std.proofs.Common.{◌≡◌, ◌⊎◌, inl, inr, ℕ, zero, suc, ◌+◌, ◌<◌, ◌≤◌, ◌%◌, Bool, true, false, ◌&&◌, ◌||◌, List, [], ◌∷◌, ◌++◌, length, Option, Some, None, refl, sym, ◌∙◌, ap, subst, arith, true≢false, append-nil, append_assoc}
+use Rattle.std.proofs.Common.{◌≡◌, ◌⊎◌, inl, inr, ℕ, zero, suc, ◌<◌, ◌≤◌, ◌%◌, Bool, true, false, ◌&&◌, ◌||◌, List, [], ◌∷◌, ◌++◌, length, Option, Some, refl, sym, ◌∙◌, ap, subst, arith, true≢false, append-nil, append_assoc}
 use Rattle.std.specs.Prelude.{ℤ, slice_index_or, slice_set}
 use Rattle.std.specs.List.{All, AllPairs, remove}
 use Rattle.std.proofs.Math.Nat.{mod-lt}
@@ -12,11 +12,10 @@ use Rattle.counter_vec.specs.Orders.{below-refl}
 use Rattle.game_form.specs.Game.{GameData, IsGame, lanes}
 use Rattle.game_form.specs.Vector.{IsVector, bound}
 use Rattle.cpre_step.specs.Refinement.{AreLeft, answers}
-use Rattle.game_core.specs.declared.boards.Committed.{Committed}
-use Rattle.game_core.specs.declared.boards.Committed.TheVariants.{Fresh, Replaced, Stale, Gone, Other}
+use Rattle.game_core.specs.declared.boards.Committed.TheVariants.{Fresh, Replaced}
 use Rattle.game_core.specs.Board.{BoardData, IsAt, IsBoard, IsLeft, OutcomeData, entry_at, mark_at, open_count, open_place, puts, replaced}
-use Rattle.game_core.specs.Commit.{Commits, exchanged, marked}
-use Rattle.game_core.specs.Front.{IsApart, Misses, extent, under}
+use Rattle.game_core.specs.Commit.{Commits}
+use Rattle.game_core.specs.Front.{IsApart, extent, under}
 use Rattle.game_core.specs.Journal.{Ends, GoesOn, IsNext, IsRun, StepData, run_ends, run_keeps, run_replaces}
 use Rattle.game_core.specs.Remains.{KeepsAnswered}
 use Rattle.game_core.specs.Rounds.{Leads, Stopped, steps_by, steps_of}

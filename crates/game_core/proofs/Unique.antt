@@ -1,9 +1,8 @@
 -- At most one ascending list of incomparable vectors covers what it covers.
 use Rattle.std.proofs.Common.{◌≡◌, ◌⊎◌, inl, inr, ℕ, zero, suc, ◌<◌, Bool, true, false, ◌||◌, List, [], ◌∷◌, length, refl, sym, ◌∙◌, ap, subst, arith, true≢false}
 use Rattle.std.specs.Prelude.{ℤ, slice_index_or}
-use Rattle.std.specs.declared.cmp.Ordering.{Ordering}
-use Rattle.std.specs.declared.cmp.Ordering.TheVariants.{Less, Equal, Greater}
-use Rattle.antichain_list.specs.Antichain.{IsAntichain, IsFirst, IsEntryOrder}
+use Rattle.std.specs.declared.cmp.Ordering.TheVariants.{Less}
+use Rattle.antichain_list.specs.Antichain.{IsAntichain, IsFirst}
 use Rattle.counter_vec.specs.Counters.{at_or_below, lexicographic}
 use Rattle.counter_vec.specs.Orders.{counters_order}
 use Rattle.std.proofs.lemmas.List.Elements.{recursion_from_All}
@@ -15,7 +14,7 @@ use Rattle.counter_vec.specs.Orders.{below-refl, below-antisym}
 use Rattle.game_form.specs.Game.{GameData}
 use Rattle.game_form.specs.Held.{HasHeld, IsHeld}
 use Rattle.game_form.specs.Vector.{IsVector}
-use Rattle.cpre_step.specs.Refinement.{AreLeft, answers}
+use Rattle.cpre_step.specs.Refinement.{AreLeft}
 use Rattle.game_core.proofs.Exact.{covered_back}
 use Rattle.antichain_list.specs.Antichain.{IsBefore}
 

@@ -1,5 +1,5 @@
 -- The game of a wire, whose output is to equal its input. The tests work on it.
-use Rattle.std.specs.Prelude.{ℕ, pos, List, [], ◌∷◌, Some}
+use Rattle.std.specs.Prelude.{pos, List, [], ◌∷◌, Some}
 use Rattle.word_core.specs.declared.names.Kind.TheVariants.{Second}
 use Rattle.word_core.specs.declared.names.Player.TheVariants.{System}
 use Rattle.word_core.specs.declared.branches.Branch.TheVariants.{Leaf, Split}

@@ -1,12 +1,11 @@
 -- The journal of a game: what a run by one thread takes out of its board's list, and what it puts there.
-use Rattle.std.specs.Prelude.{◌≡◌, ◌⊎◌, ℕ, ◌<◌, ◌%◌, ℤ, Bool, true, false, List, [], ◌∷◌, ◌++◌, Option, Some, None}
+use Rattle.std.specs.Prelude.{◌≡◌, ◌⊎◌, ◌<◌, ◌%◌, ℤ, Bool, true, false, List, [], ◌∷◌, Some}
 use Rattle.antichain_list.specs.Antichain.{covered}
 use Rattle.counter_vec.specs.Counters.{at_or_below}
 use Rattle.game_form.specs.Game.{GameData}
 use Rattle.game_form.specs.Vector.{initial}
 use Rattle.game_core.specs.Board.{BoardData, OutcomeData, IsWork, job_of, open_count, opened}
 use Rattle.game_core.specs.Commit.{Commits}
-use Rattle.game_core.specs.Solved.{Covers}
 use Rattle.game_core.specs.declared.boards.Committed.TheVariants.{Fresh, Replaced}
 use Rattle.game_core.specs.declared.solvers.Solved.{Solved}
 use Rattle.game_core.specs.declared.solvers.Solved.TheVariants.{Held, Lost}

@@ -1,5 +1,5 @@
 -- Laws of closed lists and held vectors.
-use Rattle.std.specs.Prelude.{◌≡◌, ℤ, Bool, true, List}
+use Rattle.std.specs.Prelude.{◌≡◌, ℕ, ℤ, Bool, true, List}
 use Rattle.antichain_list.specs.Antichain.{IsAntichain, covered}
 use Rattle.counter_vec.specs.Counters.{at_or_below, lexicographic}
 use Rattle.game_form.specs.Covering.{CoversLetters}
@@ -9,9 +9,8 @@ use Rattle.game_form.specs.Letters.{HasLetters}
 use Rattle.game_form.specs.Vector.{IsVector}
 use Rattle.game_core.specs.declared.events.Event.{Event}
 use Rattle.game_core.specs.declared.events.Played.{Played}
-use Rattle.game_core.specs.Board.{IsBoard}
 use Rattle.game_core.specs.Solved.{IsClosed, IsLost, IsSettled}
-use Rattle.game_core.specs.World.{WorldData, Plays}
+use Rattle.game_core.specs.World.{IsSound, Replays, WorldData, opened_world}
 
 -- every vector at or below a member of a closed list is held
 abbrev pub ClosedIsHeld : Type 0
@@ -35,6 +34,12 @@ pub record IsOneAnswer (g : GameData) (whole : Bool) : Type 0 where
 abbrev pub AnswerIsOne : Type 0
 AnswerIsOne = (g : GameData) (whole : Bool) → IsOneAnswer g whole
 
--- what an event does to a world, and what is answered, is determined
-abbrev pub PlayIsOne : Type 0
-PlayIsOne = (w : WorldData) (e : Event) (after other : WorldData) (said answer : Played) → IsBoard w.board → Plays w e after said → Plays w e other answer → (after ≡ other) × (said ≡ answer)
+-- in the world after any list of events, what is known of boards and jobs holds
+abbrev pub ReplayIsSound : Type 0
+ReplayIsSound = (g : GameData) (workers : ℕ) (events : List Event) (after : WorldData) (answers : List Played) → IsGame g → Replays (opened_world g workers) events after answers → IsSound after
+
+-- the world after a list of events, and the list of answers, are a function of the list
+abbrev pub ReplayIsOne : Type 0
+ReplayIsOne =
+    (g : GameData) (workers : ℕ) (events : List Event) (after other : WorldData) (said answers : List Played) → IsGame g → Replays (opened_world g workers) events after said
+    → Replays (opened_world g workers) events other answers → (after ≡ other) × (said ≡ answers)

@@ -1,5 +1,5 @@
 -- How a run goes on.
-use Rattle.std.specs.Prelude.{◌≡◌, ◌<◌, ℤ, Bool, true, false, List, [], ◌∷◌, ◌++◌, Option, Some, None}
+use Rattle.std.specs.Prelude.{◌≡◌, ℤ, Bool, true, false, List, [], ◌∷◌, ◌++◌, Option, Some, None}
 use Rattle.game_core.specs.Board.{BoardData, OutcomeData, open_count}
 use Rattle.game_core.specs.Journal.{StepData, GoesOn, IsRun, has_initial}
 

@@ -1,7 +1,8 @@
 -- Worlds: a board, the next number, and for each worker a number or none and a job or none.
-use Rattle.std.specs.Prelude.{◌≡◌, ℕ, zero, suc, ◌+◌, ◌<◌, ◌≤◌, ◌^◌, ◌%◌, List, [], ◌∷◌, length, Option, Some, None, nat_le, replicate, slice_index_or, slice_set, if◌then◌else◌}
-use Rattle.game_form.specs.Game.{GameData}
-use Rattle.game_core.specs.Board.{BoardData, IsWork, JobData, OutcomeData, job_of, open_count, opened}
+use Rattle.std.specs.Prelude.{◌≡◌, ℕ, zero, suc, ◌+◌, ◌≤◌, ◌^◌, ◌%◌, List, [], ◌∷◌, length, Option, Some, None, IfSome, nat_le, replicate, slice_index_or, slice_set, if◌then◌else◌}
+use Rattle.std.specs.List.{All}
+use Rattle.game_form.specs.Game.{GameData, IsGame}
+use Rattle.game_core.specs.Board.{BoardData, IsBoard, IsJob, IsWork, JobData, OutcomeData, job_of, open_count, opened}
 use Rattle.game_core.specs.Commit.{Commits}
 use Rattle.game_core.specs.declared.boards.Committed.{Committed}
 use Rattle.game_core.specs.declared.events.Event.{Event}
@@ -19,6 +20,12 @@ pub record WorldData : Type 0 where
 pub record IsWorld (w : WorldData) : Type 0 where
   pub next : w.next ≤ 2 ^ 63
   pub workers : length w.jobs ≡ length w.numbers
+
+-- what is known of the board and of the jobs
+pub record IsSound (w : WorldData) : Type 0 where
+  pub known : IsGame w.board.game
+  pub board : IsBoard w.board
+  pub jobs : All (λ j. IfSome j IsJob) w.jobs
 
 -- the board as opened, and so many workers that hold nothing
 abbrev pub opened_world : GameData → ℕ → WorldData

@@ -1,6 +1,6 @@
 //! Laws of closed lists and held vectors.
 
-ghost use Rattle.game_core.specs.Laws.{AnswerIsOne, ClosedIsHeld, HeldIsClosed, HeldIsOne, PlayIsOne};
+ghost use Rattle.game_core.specs.Laws.{AnswerIsOne, ClosedIsHeld, HeldIsClosed, HeldIsOne, ReplayIsOne, ReplayIsSound};
 
 /// Every vector at or below a member of a closed list is held, by a machine whose states are vectors of the list.
 pub fn closed_is_held()
@@ -23,8 +23,12 @@ pub fn answer_is_one()
     ensures { AnswerIsOne }
 {}
 
-/// What an event does to a world, and what is answered, is determined: so the world and the answers after a list of
-/// events are a function of the list.
-pub fn play_is_one()
-    ensures { PlayIsOne }
+/// After every list of events, at each moment, what is known of boards and jobs holds, however stale the snapshots are.
+pub fn replay_is_sound()
+    ensures { ReplayIsSound }
+{}
+
+/// The world after a list of events, and the list of answers, are a function of the list.
+pub fn replay_is_one()
+    ensures { ReplayIsOne }
 {}

@@ -25,7 +25,9 @@ pub use boards::{Board, Committed};
 pub use events::{Event, Played};
 pub use finishes::{finish, solve_logged};
 pub use jobs::{Job, Outcome, work};
-pub use laws::{answer_is_one, closed_is_held, held_is_closed, held_is_one, play_is_one};
+pub use laws::{
+    answer_is_one, closed_is_held, held_is_closed, held_is_one, replay_is_one, replay_is_sound,
+};
 pub use solvers::{Solved, solve, solve_alone};
 pub use steps::Step;
 pub use worlds::World;

@@ -1,7 +1,7 @@
 use Rattle.std.proofs.Common.{◌≡◌, ◌∙◌, ap, sym, subst, refl}
 use Rattle.game_form.specs.Game.{GameData}
 use Rattle.game_core.specs.Board.{BoardData, opened}
-use Rattle.game_core.specs.Journal.{AnswerOf, IsRun}
+use Rattle.game_core.specs.Journal.{IsRun}
 use Rattle.game_core.specs.Solved.{Covers, IsSolution}
 use Rattle.game_core.proofs.Greatest.{top_covers}
 use Rattle.game_core.proofs.Runs.{journal_of, stopped_ends}

@@ -1,6 +1,4 @@
-use Rattle.std.specs.Prelude.{ℤ, List}
 use Rattle.std.proofs.lemmas.List.Elements.{All-from_recursion}
-use Rattle.game_form.specs.Game.{GameData}
 use Rattle.game_core.proofs.EntriesHeld.{below_held}
 use Rattle.game_core.proofs.laws.closed_is_held.Goals as goal
 

@@ -1,13 +1,12 @@
-use Rattle.std.proofs.Common.{◌≡◌, ◌∙◌, ap, sym, subst, length, List, None}
+use Rattle.std.proofs.Common.{◌≡◌, ◌∙◌, ap, subst, length, None}
 use Rattle.std.proofs.lemmas.List.{length-replicate}
 use Rattle.game_form.specs.Covering.{CoversLetters}
 use Rattle.game_form.specs.Game.{GameData, IsGame}
 use Rattle.game_form.specs.Held.{HasHeld}
 use Rattle.game_form.specs.Letters.{HasLetters}
-use Rattle.game_core.specs.declared.events.Event.{Event}
 use Rattle.game_core.specs.declared.events.Event.TheVariants.{Draw}
 use Rattle.game_core.specs.Solved.{IsClosed}
-use Rattle.game_core.specs.World.{Replays, WorldData, opened_world}
+use Rattle.game_core.specs.World.{WorldData, opened_world}
 use Rattle.game_core.proofs.Boarded.{board_closed, board_held}
 use Rattle.game_core.proofs.Replayed.{plays_next, plays_none, replay_game, replays_all}
 use Rattle.game_core.proofs.worlds.World.replay.Goals as goal
