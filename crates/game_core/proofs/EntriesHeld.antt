@@ -10,6 +10,7 @@ use Rattle.std.proofs.Math.Nat.{mod-eq_of_lt as mod-eq}
 use Rattle.std.proofs.lemmas.List.{get_or_default}
 use Rattle.std.proofs.lemmas.List.Folds.{Any-from_list_any}
 use Rattle.std.proofs.lemmas.List.FromFn.{get_or-map-range_with_len, length-map-range_with_len}
+use Rattle.antichain_list.specs.Antichain.{covered}
 use Rattle.counter_vec.specs.Counters.{at_or_below}
 use Rattle.counter_vec.specs.Orders.{below-refl, below-trans}
 use Rattle.counter_vec.proofs.Galois.{galois}
@@ -171,12 +172,12 @@ module _ (g : GameData) (known : IsGame g) (list : List (List ℤ)) (start : Lis
       (successor_vector g (action_of g (plays s move.other).0 move.other) v (slice_index_or (start ∷ list) (plays s move.other).1 []) (vectors (plays s move.other).1 r.next) next_below)
       next_below step.1)
 
-  start_held : at_or_below start start ≡ true → IsHeld g start
-  start_held self = record {
-    vector = vectors 0 (omega arith);
+  start_held : (v : List ℤ) → IsVector g v → at_or_below v start ≡ true → IsHeld g v
+  start_held v vector below = record {
+    vector = vector;
     machine = m;
     fits = record { machine = is_machine; player = refl; kind = refl; inputs = refl; outputs = refl };
-    keeps = λ played play. keep played 0 start (omega arith) (vectors 0 (omega arith)) self play;
+    keeps = λ played play. keep played 0 v (omega arith) vector below play;
   }
 
 -- an action that works leads to some vector of the list
@@ -235,8 +236,10 @@ module _ (g : GameData) (known : IsGame g) (list : List (List ℤ)) (start f : L
   moves_by First kind letters answered = first_moves kind letters answered
   moves_by Second kind letters answered = second_moves kind letters answered
 
-pub closed_held : (g : GameData) → IsGame g → HasLetters g → (list : List (List ℤ)) → All (IsVector g) list → All (λ f. answers g list f ≡ true) list → All (IsHeld g) list
-closed_held g known letters list vectors closed k d lt = start_held g known list start each_vector plays.0 plays.1 (below-refl start)
+-- what is at or below a member of a closed list
+member_held : (g : GameData) → IsGame g → HasLetters g → (list : List (List ℤ)) → All (IsVector g) list → All (λ f. answers g list f ≡ true) list
+    → (k : ℕ) (d v : List ℤ) → k < length list → IsVector g v → at_or_below v (slice_index_or list k d) ≡ true → IsHeld g v
+member_held g known letters list vectors closed k d v lt = start_held g known list start each_vector plays.0 plays.1 v
   where
     start : List ℤ
     start = slice_index_or list k d
@@ -253,3 +256,12 @@ closed_held g known letters list vectors closed k d lt = start_held g known list
     plays =
         chosen (length (start ∷ list)) (λ x. (0, 0)) (λ i play. IsMoves g (start ∷ list) (slice_index_or (start ∷ list) i []) play)
         (λ i h. moves_by g known list start (slice_index_or (start ∷ list) i []) g.kind refl letters (each_answers i h))
+
+pub closed_held : (g : GameData) → IsGame g → HasLetters g → (list : List (List ℤ)) → All (IsVector g) list → All (λ f. answers g list f ≡ true) list → All (IsHeld g) list
+closed_held g known letters list vectors closed k d lt = member_held g known letters list vectors closed k d (slice_index_or list k d) lt (vectors k d lt) (below-refl (slice_index_or list k d))
+
+pub below_held : (g : GameData) → IsGame g → HasLetters g → (list : List (List ℤ)) → All (IsVector g) list → All (λ f. answers g list f ≡ true) list
+    → (v : List ℤ) → IsVector g v → covered at_or_below v list ≡ true → IsHeld g v
+below_held g known letters list vectors closed v vector hit =
+    let r = Any-from_list_any (λ e. at_or_below v e) list hit in
+    member_held g known letters list vectors closed r.0 r.1 v r.2 vector (ap (at_or_below v) r.3 ∙ r.4)

@@ -24,7 +24,7 @@ covered_from list v h =
     let below : at_or_below v e ≡ true = ap (at_or_below v) (get_or_default list r.0 [] r.1 r.2 ∙ r.3) ∙ r.4 in
     (r.0, r.2, record { same_length = below_length v e below; below = λ p lt. below_lane v e p below lt })
 
-covered_back : (list : List (List ℤ)) (v : List ℤ) → Covered list v → under list v ≡ true
+pub covered_back : (list : List (List ℤ)) (v : List ℤ) → Covered list v → under list v ≡ true
 covered_back list v c = list_any_at (λ e. at_or_below v e) list c.0 [] c.1 (below_from v (slice_index_or list c.0 []) c.2.same_length c.2.below)
 
 first_apart : (x : List ℤ) (xs : List (List ℤ)) → IsFirst at_or_below lexicographic x xs → All (IsApart x) xs
@@ -40,7 +40,7 @@ apart_from (x ∷ xs) h zero (suc j) d less lt = first_apart x xs h.0 j d (omega
 apart_from (x ∷ xs) h (suc i) zero d less lt = absurd (omega arith)
 apart_from (x ∷ xs) h (suc i) (suc j) d less lt = apart_from xs h.1 i j d (omega arith) (omega arith)
 
-antichain_from : (list : List (List ℤ)) → AllPairs IsApart list → IsAntichain list
+pub antichain_from : (list : List (List ℤ)) → AllPairs IsApart list → IsAntichain list
 antichain_from list apart i j in_i in_j h = go (cases_lt i j)
   where
     hit : at_or_below (slice_index_or list i []) (slice_index_or list j []) ≡ true

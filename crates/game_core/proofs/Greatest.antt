@@ -110,11 +110,11 @@ top_covers g = record {
     under_top : (u : List ℤ) → IsVector g u → under (top g ∷ []) u ≡ true
     under_top u vector = list_any_at (λ e. at_or_below u e) (top g ∷ []) 0 (top g) (omega arith) (top_above g u vector)
 
-held_covered : (g : GameData) (vs : List (List ℤ)) → Covers g vs → CoversLetters g → (v : List ℤ) → IsHeld g v → under vs v ≡ true
+pub held_covered : (g : GameData) (vs : List (List ℤ)) → Covers g vs → CoversLetters g → (v : List ℤ) → IsHeld g v → under vs v ≡ true
 held_covered g vs covers letters v held = covers.kept letters held.machine 0 v held.fits held.fits.machine.begins held.vector held.keeps
 
 -- an initial vector that isn't covered is in no closed list, and isn't held
-lost : (g : GameData) (whole : Bool) (vs : List (List ℤ)) → Covers g vs → whole ≡ false → under vs (initial g) ≡ false → IsLost g whole
+pub lost : (g : GameData) (whole : Bool) (vs : List (List ℤ)) → Covers g vs → whole ≡ false → under vs (initial g) ≡ false → IsLost g whole
 lost g whole vs covers asked missed = record {
   asked = asked;
   missed = λ list closed. go (covered at_or_below (initial g) list) list closed refl;

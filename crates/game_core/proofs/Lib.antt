@@ -1,5 +1,8 @@
+pub mod Begun
+pub mod Boarded
 pub mod Boxes
 pub mod ColumnReads
+pub mod Determined
 pub mod EntriesHeld
 pub mod Exact
 pub mod Extents
@@ -10,13 +13,17 @@ pub mod Greatest
 pub mod Kept
 pub mod KeptCovered
 pub mod Lists
+pub mod Moments
 pub mod Options
 pub mod Orders
 pub mod PendingMarks
 pub mod Pieces
 pub mod Places
 pub mod Replacements
+pub mod Replayed
+pub mod Runs
 pub mod Settled
 pub mod Unders
+pub mod Unique
 pub mod Weaker
 pub mod Works

@@ -15,3 +15,7 @@ pub ok_some_three : {A E : Type 0} (P Q R S : A → Type 0) (r : Result (Option 
 ok_some_three P Q R S (Ok None) w p q r = p
 ok_some_three P Q R S (Ok (Some x)) w p q r = w x p q r
 ok_some_three P Q R S (Err e) w p q r = p
+
+pub ok_weaker : {A E : Type 0} (P Q : A → Type 0) (r : Result A E) → ((x : A) → P x → Q x) → IfOk r P → IfOk r Q
+ok_weaker P Q (Ok x) w h = w x h
+ok_weaker P Q (Err e) w h = h

@@ -2,10 +2,15 @@ pub mod Board
 pub mod Columns
 pub mod Commit
 pub mod Entries
+pub mod Example
 pub mod Front
+pub mod Journal
 pub mod Known
+pub mod Laws
 pub mod Pending
 pub mod Plan
 pub mod Remains
+pub mod Rounds
 pub mod Solved
 pub mod Tried
+pub mod World

@@ -1,8 +1,12 @@
 //! The board: the list of what is still possible, with marks.
 
-ghost use Rattle.std.specs.Prelude.{◌≡◌, ◌<◌, ◌%◌, ◌∷◌, [], false, IfOk, length, MatchOption, MatchResult, not};
+ghost use Rattle.std.specs.Prelude.{◌≡◌, ◌<◌, ◌%◌, ◌∷◌, [], false, replicate, IfNone, IfOk, length, MatchOption, MatchResult, not};
 ghost use Rattle.antichain_list.specs.Antichain.{covered};
 ghost use Rattle.counter_vec.specs.Counters.{at_or_below};
+ghost use Rattle.cpre_step.specs.Refinement.{AreVectors};
+ghost use Rattle.game_form.specs.Covering.{CoversLetters};
+ghost use Rattle.game_form.specs.Held.{HasHeld};
+ghost use Rattle.game_form.specs.Letters.{HasLetters};
 ghost use Rattle.game_form.specs.Vector.{top, initial};
 
 use crate::commits::{exchange, holds_initial, place_of};
@@ -51,12 +55,13 @@ impl Model for Board {
 }
 
 impl Board {
-    ghost use Rattle.game_core.specs.Board.{IsBoard, open_count, job_of, mark_at};
+    ghost use Rattle.game_core.specs.Board.{CoversHeld, IsBoard, open_count, opened, job_of, mark_at};
     ghost use Rattle.game_core.specs.Commit.{Commits};
+    ghost use Rattle.game_core.specs.Solved.{IsClosed};
 
     /// The board with the top vector alone, not fresh.
     pub fn open(alloc: Global, g: Arc<Game>) -> Result<Board, AllocError>
-        ensures { IfOk result (λ b. b ≡ record { game = g.value; list = top g.value ∷ []; marks = false ∷ [] }) }
+        ensures { IfOk result (λ b. b ≡ opened g.value) }
     {
         g.known();
         let top = Counters::top(alloc, &g)?;
@@ -68,6 +73,34 @@ impl Board {
             list,
             marks,
         })
+    }
+
+    /// The board with these entries, at or above all that is held, none of them fresh.
+    pub fn resume(
+        alloc: Global,
+        g: Arc<Game>,
+        list: ListDownset<Counters>,
+    ) -> Result<Board, AllocError>
+        requires vectors { AreVectors g.value list }
+        requires covers { CoversHeld g.value list }
+        ensures { IfOk result (λ b. b ≡ record { game = g.value; list = list; marks = replicate (length list) false }) }
+    {
+        let count = list.len();
+        let marks = vec![in alloc; false; count]?;
+        let list = Arc::new(alloc, list)?;
+        Ok(Board {
+            game: g,
+            list,
+            marks,
+        })
+    }
+
+    /// What is known of every board: its list is an ascending antichain of vectors of the game, at or above all that
+    /// is held, and from a fresh entry the player can stay in it.
+    pub fn known(&self)
+        ensures { IsBoard self.now }
+    {
+        let _ = &self.marks;
     }
 
     /// The game.
@@ -93,12 +126,16 @@ impl Board {
     }
 
     /// A job for the entry at place `number` among those that aren't fresh, round and round. None exactly where
-    /// every entry is fresh.
+    /// every entry is fresh; then the list is exactly the maximal vectors that are held.
     pub fn claim(&self, alloc: Global, number: u64) -> Result<Option<Job>, AllocError>
-        ensures { IfOk result (λ o. MatchOption o (open_count self.now.marks ≡ 0) (λ j. (0 < open_count self.now.marks) × (j ≡ job_of self.now (number % open_count self.now.marks)))) }
+        ensures closed { IfOk result (λ o. IfNone o (IsClosed self.now.game self.now.list)) }
+        ensures held { IfOk result (λ o. IfNone o (HasLetters self.now.game → CoversLetters self.now.game → HasHeld self.now.game self.now.list)) }
+        ensures job { IfOk result (λ o. MatchOption o (open_count self.now.marks ≡ 0) (λ j. (0 < open_count self.now.marks) × (j ≡ job_of self.now (number % open_count self.now.marks)))) }
     {
         let open = count_open(&self.marks);
         if open == 0 {
+            self.known();
+            self.game.known();
             return Ok(None);
         }
         let place = find_open(&self.marks, (number % open as u64) as usize);
@@ -129,6 +166,7 @@ impl Board {
             entry,
             left,
         } = o;
+        self.game.known();
         if !same_game(&self.game, &game) {
             return Ok(Committed::Other);
         }

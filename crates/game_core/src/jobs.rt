@@ -1,6 +1,7 @@
 //! The work on one entry, without the board.
 
-ghost use Rattle.std.specs.Prelude.{◌≡◌, IfOk, length};
+ghost use Rattle.std.specs.Prelude.{◌≡◌, IfOk};
+ghost use Rattle.game_core.specs.Board.{IsWork};
 
 use antichain_list::{Downset, ListDownset};
 use counter_vec::Counters;
@@ -49,6 +50,15 @@ impl Model for Outcome {
 }
 
 impl Job {
+    ghost use Rattle.game_core.specs.Board.{IsJob};
+
+    /// What is known of every job: its entry is one of its list, which is at or above all that is held.
+    pub fn known(&self)
+        ensures { IsJob self.now }
+    {
+        let _ = &self.entry;
+    }
+
     /// The entry.
     pub fn entry(&self) -> &Counters
         ensures { result.now ≡ self.now.entry }
@@ -57,12 +67,38 @@ impl Job {
     }
 }
 
+impl Outcome {
+    ghost use Rattle.std.specs.Prelude.{option_map};
+    ghost use Rattle.game_core.specs.Board.{IsOutcome};
+
+    /// What is known of every outcome: from its entry the player can stay in its list, or else what is left of the
+    /// entry is exactly the maximal vectors below it from which the player can.
+    pub fn known(&self)
+        ensures { IsOutcome self.now }
+    {
+        let _ = &self.left;
+    }
+
+    /// The entry that was looked at.
+    pub fn entry(&self) -> &Counters
+        ensures { result.now ≡ self.now.entry }
+    {
+        &self.entry
+    }
+
+    /// What is left of the entry. None where it is kept.
+    pub fn left(&self) -> Option<&Vec<Counters>>
+        ensures { option_map (λ v. v.now.items) result ≡ self.now.left }
+    {
+        self.left.as_ref()
+    }
+}
+
 /// Looks at a job's entry: whether it stays under the job's list, or else what is left of it.
 pub fn work(alloc: Global, job: &Job) -> Result<Outcome, AllocError>
-    ensures game { IfOk result (λ o. o.game ≡ job.now.game) }
-    ensures snapshot { IfOk result (λ o. o.snapshot ≡ job.now.snapshot) }
-    ensures entry { IfOk result (λ o. o.entry ≡ job.now.entry) }
+    ensures { IfOk result (IsWork job.now) }
 {
+    job.known();
     let refined = pre_below(alloc, &job.game, &job.entry, &*job.snapshot)?;
     let left = match refined {
         Refined::Kept => None,

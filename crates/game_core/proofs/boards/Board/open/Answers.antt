@@ -2,7 +2,7 @@ use Rattle.std.proofs.Common.{◌≡◌, ◌∙◌, ap, [], ◌∷◌, List, fal
 use Rattle.std.specs.Prelude.{ℤ}
 use Rattle.game_form.specs.Vector.{top}
 use Rattle.game_form.specs.Game.{IsGame}
-use Rattle.game_core.proofs.Kept.{opened_as}
+use Rattle.game_core.proofs.Boarded.{opened_as}
 use Rattle.game_core.proofs.boards.Board.open.Goals as goal
 
 pub invariant_of-result : goal.invariant_of-result
