@@ -7,6 +7,7 @@ pub mod Joints
 pub mod Lists
 pub mod Notes
 pub mod Occurring
+pub mod Rests
 pub mod SignalChoices
 pub mod SplitLines
 pub mod SumSteps
