@@ -18,3 +18,4 @@ pub mod SameEffects
 pub mod Sides
 pub mod Splits
 pub mod Steps
+pub mod Unique

@@ -5,7 +5,8 @@ use Rattle.word_core.specs.declared.names.Kind.{Kind}
 use Rattle.word_core.specs.declared.names.Player.{Player}
 use Rattle.word_core.specs.Automaton.{AutomatonData, edges_at}
 use Rattle.word_core.specs.Play.{letter_of}
-use Rattle.game_form.specs.Game.{GameData, lanes, action_of, class_at, class_of, option_at, first_width, second_width, of_first, of_second}
+use Rattle.game_form.specs.Game.{GameData, lanes, action_at, row_at, action_of, class_at, class_of, option_at, first_width, second_width, of_first, of_second}
+use Rattle.game_form.specs.Vector.{number}
 use Rattle.action_groups.specs.Rows.{HasRows, edge_number}
 
 -- the letter of a valuation of the side that moves first and one of the other, the inputs in its first bits; its action
@@ -63,3 +64,21 @@ pub record IsGroupedGame (a : AutomatonData) (whose : Player) (moves : Kind) (in
   pub init : g.init ≡ a.init
   pub count : lanes g ≡ length a.states
   pub grouped : IsGrouped a g
+
+-- the same player, kind and signals
+pub record HasSameSides (g h : GameData) : Type 0 where
+  pub player : g.player ≡ h.player
+  pub kind : g.kind ≡ h.kind
+  pub inputs : g.inputs ≡ h.inputs
+  pub outputs : g.outputs ≡ h.outputs
+
+-- as many actions and classes; letters have the same actions with the same rows, and first valuations the same classes
+-- with the same least valuations and options
+pub record AreAlike (a : AutomatonData) (g h : GameData) : Type 0 where
+  pub actions : length g.actions ≡ length h.actions
+  pub answers : (f s : ℕ) → AreValuations g f s → answer g f s ≡ answer h f s
+  pub rows : (f s q p : ℕ) → AreValuations g f s → q < length a.states → number (row_at (action_at g (answer g f s)) q) p ≡ number (row_at (action_at h (answer h f s)) q) p
+  pub classes : length g.classes ≡ length h.classes
+  pub class : (f : ℕ) → f < 2 ^ first_width g → class_of g f ≡ class_of h f
+  pub least : (place : ℕ) → place < length g.classes → (class_at g place).least ≡ (class_at h place).least
+  pub options : (f : ℕ) → f < 2 ^ first_width g → (class_at g (class_of g f)).options ≡ (class_at h (class_of h f)).options

@@ -4,6 +4,7 @@
 mod firsts;
 mod games;
 mod groups;
+mod laws;
 mod least_letters;
 mod orders;
 mod parts;
@@ -12,3 +13,4 @@ mod rows;
 mod ways;
 
 pub use games::make_game;
+pub use laws::grouping_is_one;
