@@ -4,6 +4,8 @@
 mod firsts;
 mod games;
 mod groups;
+mod laws;
+mod least_letters;
 mod orders;
 mod parts;
 mod ranks;
@@ -11,3 +13,4 @@ mod rows;
 mod ways;
 
 pub use games::make_game;
+pub use laws::grouping_is_one;

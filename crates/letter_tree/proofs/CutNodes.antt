@@ -215,3 +215,38 @@ all_stopped-length w ns old e = ap (λ t. length t) e ∙ length-all_stopped w 0
 
 pub relabelled-all : (i : ℕ) (numbers : List ℕ) (ns old : List Branch) → length ns ≤ i → old ≡ map (relabelled numbers) (take i ns) → old ≡ map (relabelled numbers) ns
 relabelled-all i numbers ns old h e = e ∙ ap (map (relabelled numbers)) (take_all i ns h)
+
+-- other labels in the place of a tree's
+relabelled_from : (w : ℕ) (numbers : List ℕ) (nodes : List Branch) → IsDiagram w nodes → IsDiagram w (map (relabelled numbers) nodes) → (n place bits : ℕ) → place < n → place < length nodes
+    → label_at (map (relabelled numbers) nodes) place bits ≡ get_or numbers (label_at nodes place bits) 0
+relabelled_from w numbers nodes d d' zero place bits h i = absurd (omega (arith, h))
+relabelled_from w numbers nodes d d' (suc n) place bits h i = go (slice_get nodes place) refl (λ q a b. relabelled_from w numbers nodes d d' n q bits (omega arith) b)
+  where
+    at : (o : Option Branch) → slice_get nodes place ≡ o → slice_get (map (relabelled numbers) nodes) place ≡ option_map (relabelled numbers) o
+    at o e = slice_get-map (relabelled numbers) nodes place ∙ ap (option_map (relabelled numbers)) e
+
+    go : (o : Option Branch) → slice_get nodes place ≡ o → ((q : ℕ) → q < place → q < length nodes → label_at (map (relabelled numbers) nodes) q bits ≡ get_or numbers (label_at nodes q bits) 0)
+        → label_at (map (relabelled numbers) nodes) place bits ≡ get_or numbers (label_at nodes place bits) 0
+    go None e ih = let g = slice_get-get_or nodes place (Leaf 0) i in absurd (cc)
+    go (Some (Leaf l)) e ih =
+        label_at-leaf (map (relabelled numbers) nodes) place (get_or numbers l 0) bits (at (Some (Leaf l)) e)
+        ∙ sym (ap (λ m. get_or numbers m 0) (label_at-leaf nodes place l bits e))
+    go (Some (Split s lo hi)) e ih =
+        label_at-split w (map (relabelled numbers) nodes) d' place s lo hi bits (at (Some (Split s lo hi)) e)
+        ∙ part (bits / 2 ^ s % 2 == 1)
+        ∙ sym (ap (λ m. get_or numbers m 0) (label_at-split w nodes d place s lo hi bits e))
+      where
+        k : IsFork w nodes place s lo hi
+        k = fork_at w nodes place s lo hi d e
+
+        part : (v : Bool) → label_at (map (relabelled numbers) nodes) (cond v hi lo) bits ≡ get_or numbers (label_at nodes (cond v hi lo) bits) 0
+        part true = ih hi k.high_earlier (omega (arith, k.high_earlier, i))
+        part false = ih lo k.low_earlier (omega (arith, k.low_earlier, i))
+
+pub label_relabelled : (w : ℕ) (numbers : List ℕ) (nodes now : List Branch) → IsRooted w nodes → now ≡ map (relabelled numbers) nodes → (bits : ℕ) → label_of now bits ≡ get_or numbers (label_of nodes bits) 0
+label_relabelled w numbers nodes now r e bits =
+    let last : ℕ = length nodes - 1 in
+    let size : length now ≡ length nodes = ap (λ (t : List Branch). length t) e ∙ length-map nodes (relabelled numbers) in
+    ap (λ q. label_at now q bits) (ap (λ q. q - 1) size)
+    ∙ ap (λ (t : List Branch). label_at t last bits) e
+    ∙ relabelled_from w numbers nodes r.diagram (relabelled_rooted w numbers nodes r).diagram (length nodes) last bits (omega (arith, r.some)) (omega (arith, r.some))

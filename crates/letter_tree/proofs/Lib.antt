@@ -6,6 +6,8 @@ pub mod Diagrams
 pub mod Joints
 pub mod Lists
 pub mod Notes
+pub mod Occurring
+pub mod Rests
 pub mod SignalChoices
 pub mod SplitLines
 pub mod SumSteps

@@ -1,9 +1,9 @@
 -- A tree cut after its first signals.
-use Rattle.std.specs.Prelude.{◌≡◌, ℕ, ◌+◌, ◌<◌, ◌≤◌, List, [], ◌∷◌, length, slice_get, slice_index, Some, if◌then◌else◌, nat_lt}
+use Rattle.std.specs.Prelude.{◌≡◌, ℕ, ◌+◌, ◌/◌, ◌^◌, ◌<◌, ◌≤◌, List, [], ◌∷◌, length, slice_get, slice_index, slice_index_or, Some, if◌then◌else◌, nat_lt}
 use Rattle.word_core.specs.declared.branches.Branch.{Branch}
 use Rattle.word_core.specs.declared.branches.Branch.TheVariants.{Leaf, Split}
 use Rattle.word_core.specs.Tree.{label_at, label_of}
-use Rattle.letter_tree.specs.Diagram.{IsRooted, top}
+use Rattle.letter_tree.specs.Diagram.{TreeData, IsRooted, top}
 
 -- a node that tests a signal below the width, and else a leaf with its place
 abbrev pub stopped : ℕ → ℕ → Branch → Branch
@@ -29,3 +29,22 @@ pub record IsFront (nodes : List Branch) (whole width : ℕ) (out : List Branch)
   pub rooted : IsRooted width out
   pub ends : (place label : ℕ) → slice_get out place ≡ Some (Leaf label) → IsEnd nodes whole width label
   pub label : (bits : ℕ) → label_at nodes (label_of out bits) bits ≡ label_of nodes bits
+
+-- a label in the list of ends
+abbrev pub end_at : List (ℕ × ℕ) → ℕ → ℕ
+end_at ends i = (slice_index_or ends i (0, 0)).1
+
+-- a tree's labels are places in the list of another tree's
+abbrev pub ArePlaced : List (ℕ × ℕ) → List Branch → List Branch → Type 0
+ArePlaced ends out front = (bits : ℕ) → end_at ends (label_of front bits) ≡ label_of out bits
+
+abbrev pub no_tree : TreeData
+no_tree = record { width = 0; nodes = [] }
+
+-- the label of the function with a number
+abbrev pub rest_label : List TreeData → ℕ → ℕ → ℕ
+rest_label rests number bits = label_of (slice_index_or rests number no_tree).nodes bits
+
+-- the first signals lead to the number of a function of the others, and the two together to a valuation's label
+abbrev pub IsSplit : ℕ → List Branch → List Branch → List TreeData → Type 0
+IsSplit width nodes front rests = (bits : ℕ) → rest_label rests (label_of front bits) (bits / 2 ^ width) ≡ label_of nodes bits

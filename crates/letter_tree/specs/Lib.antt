@@ -6,5 +6,6 @@ pub mod Diagram
 pub mod Join
 pub mod Listed
 pub mod Memo
+pub mod Occurrence
 pub mod Splitting
 pub mod Sums

@@ -1,9 +1,9 @@
 //! Trees cut into a function of the first signals and functions of the others.
 
-ghost use Rattle.std.specs.Prelude.{ℕ, ◌≡◌, ◌+◌, ◌-◌, ◌^◌, ◌<◌, ◌≤◌, IfOk, All, Some, length, slice_index};
-ghost use Rattle.word_core.specs.Tree.{label_of, LabelHas, AllLabels};
+ghost use Rattle.std.specs.Prelude.{ℕ, ◌≡◌, ◌+◌, ◌-◌, ◌/◌, ◌^◌, ◌<◌, ◌≤◌, IfOk, All, Some, length, slice_index};
+ghost use Rattle.word_core.specs.Tree.{label_at, label_of, LabelHas, AllLabels};
 ghost use Rattle.letter_tree.specs.Diagram.{IsRooted, HasLeaf};
-ghost use Rattle.letter_tree.specs.Cut.{stopped, relabelled, IsEnd, IsFront};
+ghost use Rattle.letter_tree.specs.Cut.{stopped, relabelled, end_at, rest_label, IsEnd, IsFront, ArePlaced, IsSplit};
 
 use crate::occurrences::leasts_of;
 use crate::reached_nodes::reached;
@@ -20,6 +20,7 @@ pub fn split(alloc: Global, t: &Tree, width: u32) -> Result<(Tree, Vec<Tree>), A
     ensures rests { IfOk result (λ r. All (λ t'. t'.width ≡ t.now.width - width) r.1.items) }
     ensures numbers { IfOk result (λ r. AllLabels (λ l. l < length r.1.items) r.0.nodes) }
     ensures some { IfOk result (λ r. 0 < length r.1.items) }
+    ensures label { IfOk result (λ r. IsSplit width t.now.nodes r.0.nodes r.1.items) }
 {
     let nodes = t.branches();
     let whole = t.width();
@@ -72,6 +73,7 @@ fn rests(
     requires ends { All (λ p. IsEnd nodes.now whole width p.1) ends.now }
     ensures count { IfOk result (λ v. length v.items ≡ length ends.now) }
     ensures width { IfOk result (λ v. All (λ t. t.width ≡ whole - width) v.items) }
+    ensures each { IfOk result (λ v. (i bits : ℕ) → i < length ends.now → rest_label v.items i (bits / 2 ^ width) ≡ label_at nodes.now (end_at ends.now i) bits) }
 {
     let mut out = Vec::with_capacity(alloc, ends.len())?;
     for (_, place) in ends {
@@ -92,8 +94,11 @@ fn numbered(
     requires labels { AllLabels (λ l. l < count) cut.now.nodes }
     requires ends { All (λ p. p.1 < count) ends.now }
     requires some { 0 < length ends.now }
+    requires known { (bits : ℕ) → (i : ℕ) × (i < length ends.now) × (end_at ends.now i ≡ label_of cut.now.nodes bits) }
     ensures width { IfOk result (λ t. t.width ≡ cut.now.width) }
     ensures numbers { IfOk result (λ t. AllLabels (λ l. l < length ends.now) t.nodes) }
+    ensures below { IfOk result (λ t. (bits : ℕ) → label_of t.nodes bits < length ends.now) }
+    ensures places { IfOk result (λ t. ArePlaced ends.now cut.now.nodes t.nodes) }
 {
     let numbers = numbers(alloc, count, ends)?;
     let mut nodes = Vec::with_capacity(alloc, cut.branches().len())?;
@@ -109,6 +114,7 @@ fn numbers(alloc: Global, count: usize, ends: &[(u64, u64)]) -> Result<Vec<u64>,
     requires some { 0 < length ends.now }
     ensures count { IfOk result (λ v. length v.items ≡ count) }
     ensures numbers { IfOk result (λ v. (i : ℕ) → slice_index v.items i < length ends.now) }
+    ensures places { IfOk result (λ v. (i : ℕ) → i < length ends.now → end_at ends.now (slice_index v.items (end_at ends.now i)) ≡ end_at ends.now i) }
 {
     let mut out = vec![in alloc; 0; count]?;
     for (number, (_, label)) in ends.iter().enumerate() {

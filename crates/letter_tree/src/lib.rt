@@ -19,7 +19,7 @@ mod trees;
 
 pub use cuts::split;
 pub use joins::{apply, equal};
-pub use occurrences::{labels, least, leasts, leasts_of};
+pub use occurrences::{labels, least, leasts_of};
 pub use splittings::patterns;
 pub use trees::{Tree, nodes};
 

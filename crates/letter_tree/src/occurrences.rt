@@ -1,11 +1,13 @@
 //! The labels that occur in a tree, and their least valuations.
 
-ghost use Rattle.std.specs.Prelude.{ℕ, ◌≡◌, ◌+◌, ◌^◌, ◌<◌, ◌≤◌, ◌++◌, IfOk, OnOk, IsTrue, Some, All, length, slice_get, slice_index};
+ghost use Rattle.std.specs.Prelude.{ℕ, ◌≡◌, ◌+◌, ◌^◌, ◌<◌, ◌≤◌, ◌++◌, IfOk, OnOk, IsTrue, false, Some, All, length, slice_get, slice_index};
 ghost use Rattle.word_core.specs.Tree.{IsTree};
 ghost use Rattle.letter_tree.specs.Diagram.{IsDiagram, IsRooted, HasLeaf};
-ghost use Rattle.letter_tree.specs.Sums.{AreBits, AreSmall, ArePassing, IsLowered, HasSummedLeaf, label_pair};
+ghost use Rattle.letter_tree.specs.Occurrence.{AreLeasts, AreLabels, labels_in};
+ghost use Rattle.letter_tree.specs.Sums.{ArePassing, ArePairsOf, IsLowered, label_pair};
 
 use crate::trees::Tree;
+use indexmap::IndexSet;
 use std::alloc::{AllocError, Global};
 use word_core::{Branch, walk};
 
@@ -24,52 +26,38 @@ pub fn least(t: &Tree, label: u64) -> Option<u64> {
     Some(found)
 }
 
-/// The labels that occur, ordered by their least valuations.
-pub fn labels(alloc: Global, t: &Tree) -> Result<Vec<u64>, AllocError> {
-    let mut out = Vec::new(alloc);
-    for (_, label) in &leasts_of(alloc, t)? {
-        out.push(*label)?;
+/// The labels that occur, each once, in the order of their least valuations.
+pub fn labels(alloc: Global, t: &Tree) -> Result<Vec<u64>, AllocError>
+    ensures { IfOk result (λ v. AreLabels t.now.width t.now.nodes v.items) }
+{
+    let leasts = leasts_of(alloc, t)?;
+    let seen = in_order(alloc, &leasts)?;
+    let _ = seen.len();
+    let labels = Vec::from_slice(alloc, seen.as_slice())?;
+    Ok(labels)
+}
+
+/// The labels of pairs, each once, in the order of the pairs.
+fn in_order(alloc: Global, pairs: &[(u64, u64)]) -> Result<IndexSet<u64>, AllocError>
+    ensures { IfOk result (λ s. s.keys ≡ labels_in pairs.now) }
+{
+    let mut seen = IndexSet::new(alloc);
+    for (_, label) in pairs {
+        seen.insert_full(*label)?;
     }
-    Ok(out)
+    Ok(seen)
 }
 
 /// The labels that occur, each behind its least valuation, in the order of these.
 pub fn leasts_of(alloc: Global, t: &Tree) -> Result<Vec<(u64, u64)>, AllocError>
     ensures leaves { IfOk result (λ v. All (λ p. HasLeaf t.now.nodes p.1) v.items) }
-    ensures small { IfOk result (λ v. All (λ p. p.0 < 2 ^ t.now.width) v.items) }
     ensures some { IfOk result (λ v. 0 < length v.items) }
-{
-    let weights = bits(alloc, t.width())?;
-    leasts(alloc, t, &weights)
-}
-
-/// The labels that occur, each behind the least sum of its valuations, in the order of these. A
-/// signal that is 1 adds its weight to the sum. The weights are different powers of two, one for
-/// each signal.
-pub fn leasts(alloc: Global, t: &Tree, weights: &[u64]) -> Result<Vec<(u64, u64)>, AllocError>
-    requires { t.now.width ≤ length weights.now }
-    ensures leaves { IfOk result (λ v. All (λ p. HasLeaf t.now.nodes p.1) v.items) }
-    ensures small { AreBits t.now.width weights.now → IfOk result (λ v. All (λ p. p.0 < 2 ^ t.now.width) v.items) }
-    ensures some { IfOk result (λ v. 0 < length v.items) }
+    ensures exact { IfOk result (λ v. AreLeasts t.now.width t.now.nodes v.items) }
 {
     let nodes = t.branches();
-    let width = t.width();
-    let sums = least_sums(alloc, nodes, width, weights)?;
-    let mut out = labelled(alloc, nodes, width, &sums)?;
+    let sums = least_sums(alloc, nodes, t.width())?;
+    let mut out = labelled(alloc, nodes, &sums)?;
     out.sort()?;
-    Ok(out)
-}
-
-/// The weights of a valuation's own bits.
-pub fn bits(alloc: Global, width: u32) -> Result<Vec<u64>, AllocError>
-    requires { width ≤ 64 }
-    ensures count { IfOk result (λ v. length v.items ≡ width) }
-    ensures bits { IfOk result (λ v. AreBits width v.items) }
-{
-    let mut out = Vec::new(alloc);
-    for signal in 0..width {
-        out.push(1 << signal)?;
-    }
     Ok(out)
 }
 
@@ -77,13 +65,10 @@ pub fn bits(alloc: Global, width: u32) -> Result<Vec<u64>, AllocError>
 fn labelled(
     alloc: Global,
     nodes: &[Branch],
-    width: u32,
     sums: &[Option<u64>],
 ) -> Result<Vec<(u64, u64)>, AllocError>
     requires count { length sums.now ≡ length nodes.now }
-    ensures leaves { IfOk result (λ v. All (λ p. HasLeaf nodes.now p.1) v.items) }
-    ensures small { AreSmall width nodes.now sums.now → IfOk result (λ v. All (λ p. p.0 < 2 ^ width) v.items) }
-    ensures some { HasSummedLeaf nodes.now sums.now → IfOk result (λ v. 0 < length v.items) }
+    ensures { IfOk result (λ v. ArePairsOf nodes.now sums.now (length nodes.now) v.items) }
 {
     let mut out = Vec::new(alloc);
     for (place, node) in nodes.iter().enumerate() {
@@ -108,49 +93,35 @@ fn put_label(node: Branch, sum: Option<u64>, out: &mut Vec<(u64, u64)>) -> Resul
     }
 }
 
-/// For each node the least sum of a valuation that leads to it from the last node, if there is one.
-fn least_sums(
-    alloc: Global,
-    nodes: &[Branch],
-    width: u32,
-    weights: &[u64],
-) -> Result<Vec<Option<u64>>, AllocError>
+/// For each node the least valuation that leads to it from the last node, if there is one.
+fn least_sums(alloc: Global, nodes: &[Branch], width: u32) -> Result<Vec<Option<u64>>, AllocError>
     requires tree { IsRooted width nodes.now }
-    requires weights { width ≤ length weights.now }
-    ensures { IfOk result (λ v. ArePassing width nodes.now weights.now 0 v.items) }
+    ensures { IfOk result (λ v. ArePassing width nodes.now 0 v.items) }
 {
     let mut sums = vec![in alloc; None; nodes.len()]?;
     sums[nodes.len() - 1] = Some(0);
     for place in (0..nodes.len()).rev() {
         match sums[place] {
             None => {}
-            Some(sum) => pass_on(nodes, width, &mut sums, place, sum, weights),
+            Some(sum) => pass_on(nodes, width, &mut sums, place, sum),
         }
     }
     Ok(sums)
 }
 
 /// Puts the sums of a node's parts in, where the node has this sum.
-fn pass_on(
-    nodes: &[Branch],
-    width: u32,
-    sums: &mut [Option<u64>],
-    place: usize,
-    sum: u64,
-    weights: &[u64],
-)
+fn pass_on(nodes: &[Branch], width: u32, sums: &mut [Option<u64>], place: usize, sum: u64)
     requires diagram { IsDiagram width nodes.now }
-    requires weights { width ≤ length weights.now }
     requires place_in { place < length nodes.now }
     requires sum { slice_get sums.old place ≡ Some (Some sum) }
-    requires passing { ArePassing width nodes.now weights.now (place + 1) sums.old }
-    ensures { ArePassing width nodes.now weights.now place sums.new }
+    requires passing { ArePassing width nodes.now (place + 1) sums.old }
+    ensures { ArePassing width nodes.now place sums.new }
 {
     match nodes[place] {
         Branch::Leaf(_) => {}
         Branch::Split { signal, low, high } => {
             lower(sums, low, sum);
-            lower(sums, high, sum | weights[signal as usize]);
+            lower(sums, high, sum | 1 << signal);
         }
     }
 }
@@ -167,7 +138,8 @@ fn lower(sums: &mut [Option<u64>], place: u64, sum: u64)
 
 /// Whether there is a number, and it is at most another one.
 fn is_at_most(known: Option<u64>, sum: u64) -> bool
-    ensures { IsTrue result → (v : ℕ) × (known ≡ Some v) × (v ≤ sum) }
+    ensures below { IsTrue result → (v : ℕ) × (known ≡ Some v) × (v ≤ sum) }
+    ensures above { (v : ℕ) → result ≡ false → known ≡ Some v → sum ≤ v }
 {
     match known {
         None => false,

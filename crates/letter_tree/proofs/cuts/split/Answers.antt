@@ -1,9 +1,11 @@
-use Rattle.std.proofs.Common.{◌<◌, ℕ, List, length, sym, subst}
+use Rattle.std.proofs.Common.{◌≡◌, ◌<◌, ◌/◌, ◌^◌, ℕ, List, length, sym, subst}
 use Rattle.std.specs.List.{All}
-use Rattle.word_core.specs.Tree.{AllLabels}
+use Rattle.word_core.specs.Tree.{label_at, label_of, AllLabels}
 use Rattle.letter_tree.specs.Diagram.{TreeData, HasLeaf}
-use Rattle.letter_tree.specs.Cut.{IsEnd}
+use Rattle.letter_tree.specs.Cut.{end_at, rest_label, IsEnd, ArePlaced, IsSplit}
 use Rattle.letter_tree.proofs.CutNodes.{ends_of, ends_below, front_labels}
+use Rattle.word_core.specs.declared.branches.Branch.{Branch}
+use Rattle.letter_tree.proofs.Rests.{known_ends, split_exact}
 use Rattle.letter_tree.proofs.cuts.split.Goals as goal
 
 pub rests-requires-clause-ends : goal.rests-requires-clause-ends
@@ -23,3 +25,23 @@ numbered-requires-clause-ends c =
     subst (λ (t : TreeData). All (λ (p : ℕ × ℕ). HasLeaf t.nodes p.1) c.in_ok-ends.ends.items) c.of_parts-cut.ensures c.in_ok-ends.ensures.leaves in
     subst (λ (l : List (ℕ × ℕ)). All (λ (p : ℕ × ℕ). p.1 < length c.branches-nodes.result.now) l) (sym c.deref-2.ensures.value)
     (ends_below _ _ _ _ (ends_of _ _ _ _ _ c.in_ok-front.ensures leaves))
+
+pub numbered-requires-clause-known : goal.numbered-requires-clause-known
+numbered-requires-clause-known c =
+    let Known : List (ℕ × ℕ) → Type 0 = λ l. (bits : ℕ) → (i : ℕ) × (i < length l) × (end_at l i ≡ label_of c.of_parts-cut.result.nodes bits) in
+    subst Known (sym c.deref-2.ensures.value) (known_ends c.of_parts-cut.result.width c.of_parts-cut.result.nodes c.in_ok-ends.ends.items c.in_ok-ends.ensures.exact)
+
+pub returns-clause-label : goal.returns-clause-label
+returns-clause-label c =
+    let nodes = c.branches-nodes.result.now in
+    let out = c.in_ok-front.field-0.items in
+    let ends = c.in_ok-ends.ends.items in
+    let front = c.in_ok-numbered.field-0.nodes in
+    let rests = c.in_ok-rests.rests.items in
+    let placed : ArePlaced ends out front =
+    subst (λ (l : List (ℕ × ℕ)). ArePlaced l out front) c.deref-2.ensures.value (subst (λ (t : TreeData). ArePlaced c.deref-2.result.now t.nodes front) c.of_parts-cut.ensures c.in_ok-numbered.ensures.places) in
+    let below : (bits : ℕ) → label_of front bits < length ends = λ bits. subst (λ (l : List (ℕ × ℕ)). label_of front bits < length l) c.deref-2.ensures.value (c.in_ok-numbered.ensures.below bits) in
+    let Each : List (ℕ × ℕ) → Type 0 = λ l. (i bits : ℕ) → i < length l → rest_label rests i (bits / 2 ^ c.args.width) ≡ label_at nodes (end_at l i) bits in
+    let each : Each ends = subst Each c.deref.ensures.value c.in_ok-rests.ensures.each in
+    subst (λ (n : List Branch). IsSplit c.args.width n front rests) c.branches-nodes.ensures.value
+    (split_exact nodes out front c.width-whole.result c.args.width ends rests c.in_ok-front.ensures placed below each)
