@@ -9,6 +9,7 @@ pub mod FullColumns
 pub mod Greatest
 pub mod Kept
 pub mod KeptCovered
+pub mod Lifts
 pub mod Lists
 pub mod Options
 pub mod Orders

@@ -235,3 +235,7 @@ rest_apart p all rest is h i j d less lt = let apart : AllPairs IsApart (p ∷ r
 
 pub first_apart : (p : List ℤ) (all rest : List (List ℤ)) → all ≡ p ∷ rest → AllPairs IsApart all → Misses p rest
 first_apart p all rest is h k d lt = let apart : AllPairs IsApart (p ∷ rest) = subst (AllPairs IsApart) is h in (apart zero (suc k) d (omega arith) (omega arith)).0
+
+-- what no vector of a list is at or above, and none is below, is comparable with none
+pub apart_from : (p : List ℤ) (xs : List (List ℤ)) → All (λ e. at_or_below e p ≡ false) xs → under xs p ≡ false → All (λ e. IsApart e p) xs
+apart_from p xs above h = let miss = misses_from p xs h in λ k d lt. (above k d lt, miss k d lt)

@@ -8,4 +8,5 @@ pub mod Pending
 pub mod Plan
 pub mod Remains
 pub mod Solved
+pub mod Start
 pub mod Tried

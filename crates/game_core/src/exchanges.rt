@@ -12,23 +12,10 @@ ghost use Rattle.game_core.specs.Known.{HaveAnswers};
 ghost use Rattle.game_core.specs.Remains.{AreRemains, KeepsAnswered};
 ghost use Rattle.counter_vec.specs.Counters.{at_or_below};
 
-use crate::fronts::{Note, forget_place, sum_of};
-use antichain_list::Entry;
+use crate::fronts::{Note, forget_place, is_under, sum_of};
 use counter_vec::Counters;
 use game_form::Game;
 use std::alloc::{AllocError, Global};
-
-/// Whether `v` is comparable with no entry.
-fn is_apart(vectors: &[Counters], v: &Counters) -> bool
-    ensures { IsTrue result ↔ All (λ e. IsApart e v.now) vectors.now }
-{
-    for e in vectors {
-        if v.at_or_below(e) || e.at_or_below(v) {
-            return false;
-        }
-    }
-    true
-}
 
 /// Forgets entry `gone` in one note. Says whether it was there.
 fn forget_in(note: &mut Note, gone: usize) -> bool
@@ -100,7 +87,7 @@ fn push_entry(
     Ok(())
 }
 
-/// Puts one piece of `f`, where it is comparable with no entry.
+/// Puts one piece of `f`, where no entry is at or above it. None is below it, since none is below `f`.
 #[tactic(auto, using(crate::proofs::Replacements::entries_pushed, crate::proofs::Replacements::misses_pushed, crate::proofs::Replacements::under_pushed, crate::proofs::ColumnReads::columns_pushed))]
 fn put_piece(
     alloc: Global,
@@ -122,13 +109,14 @@ fn put_piece(
     ensures columns { OnOk result ((columns : List (Vec (List ℤ) Global)) → AreColumns g.now entries.old.vectors.items columns → AreColumns g.now entries.new.vectors.items columns) }
     ensures under { (old : List (List ℤ)) → All (λ e. under (f.now ∷ old) e ≡ true) entries.old.vectors.items → OnOk result (All (λ e. under (f.now ∷ old) e ≡ true) entries.new.vectors.items) }
 {
-    if is_apart(&entries.vectors, &piece) {
-        push_entry(alloc, entries, piece, note)?;
+    if is_under(&entries.vectors, &piece) {
+        return Ok(());
     }
+    push_entry(alloc, entries, piece, note)?;
     Ok(())
 }
 
-/// Puts the pieces of `f` that are comparable with no entry.
+/// Puts the pieces of `f` at or above which no entry is.
 #[tactic(auto, using(crate::proofs::Replacements::under_more))]
 fn put_pieces(
     alloc: Global,
@@ -177,7 +165,7 @@ fn take_entry(entries: &mut Entries, place: usize) -> (Counters, Note)
     (vector, note)
 }
 
-/// Replaces an entry by the pieces of it that are comparable with no other entry.
+/// Replaces an entry by the pieces of it that are at or below no other entry.
 #[tactic(auto, using(crate::proofs::Replacements::exchange_falls, crate::proofs::Replacements::misses_rest))]
 pub fn exchange(
     alloc: Global,

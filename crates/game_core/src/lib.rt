@@ -14,7 +14,9 @@ mod refinements;
 mod sames;
 mod searches;
 mod solvers;
+mod starts;
 
 pub use boards::{Board, Committed};
 pub use jobs::{Job, Outcome, work};
-pub use solvers::{Solved, solve, solve_alone};
+pub use solvers::{Attempt, Solved, solve, solve_alone, solve_from};
+pub use starts::{everything, lift};

@@ -1,8 +1,8 @@
 //! The maximal vectors below an entry from which a player can answer.
 
-ghost use Rattle.std.specs.Prelude.{◌≡◌, ◌<◌, ◌&&◌, ◌||◌, ℕ, List, ℤ, true, false, length, vec_len, IfOk, OnOk, not, slice_index_or};
+ghost use Rattle.std.specs.Prelude.{◌≡◌, ◌<◌, ◌&&◌, ◌||◌, ℕ, List, ℤ, true, false, length, vec_len, IfOk, IfSome, OnOk, not, slice_index_or};
 ghost use Rattle.std.specs.List.{All, AllPairs, filter, list_any};
-ghost use Rattle.counter_vec.specs.Counters.{at_or_below, AreCounters};
+ghost use Rattle.counter_vec.specs.Counters.{at_or_below, met, AreCounters};
 ghost use Rattle.game_core.specs.Columns.{column_at, some_covers, each_covers, MissesAll};
 ghost use Rattle.game_core.specs.Front.{IsApart, IsPiece, Misses, under};
 ghost use Rattle.game_core.specs.Plan.{AreActions};
@@ -39,13 +39,31 @@ fn add_maximal(kept: &mut Vec<Counters>, piece: Counters, f: &Counters) -> Resul
     Ok(())
 }
 
-/// Adds what is at or below `v`, which is `f` or a piece of it, and a member of the column.
+/// The place of a vector at or above the meet of `v` and `p`, looked for at the place `likely` first.
+fn find_met(vectors: &[Counters], v: &Counters, p: &Counters, likely: usize) -> Option<usize>
+    requires { length v.now ≡ length p.now }
+    ensures { IfSome result (λ _. under vectors.now (met v.now p.now) ≡ true) }
+{
+    if likely < vectors.len() && v.meet_at_or_below(p, &vectors[likely]) {
+        return Some(likely);
+    }
+    for i in 0..vectors.len() {
+        if v.meet_at_or_below(p, &vectors[i]) {
+            return Some(i);
+        }
+    }
+    None
+}
+
+/// Adds what is at or below `v`, which is `f` or a piece of it, and a member of the column. `likely` is the place
+/// of the vector that was last at or above such a meet.
 fn add_meet(
     alloc: Global,
     v: &Counters,
     p: &Counters,
     kept: &mut Vec<Counters>,
     f: &Counters,
+    likely: &mut usize,
 ) -> Result<(), AllocError>
     requires same { length v.now ≡ length p.now }
     requires under { at_or_below v.now f.now ≡ true }
@@ -56,6 +74,10 @@ fn add_meet(
     ensures apart { AllPairs IsApart kept.new.items }
     ensures under { OnOk result ((u : List ℤ) → under kept.new.items u ≡ (under kept.old.items u || (at_or_below u v.now && at_or_below u p.now))) }
 {
+    if let Some(at) = find_met(kept, v, p, *likely) {
+        *likely = at;
+        return Ok(());
+    }
     let meet = v.meet(alloc, p)?;
     let _ = meet.lanes();
     add_maximal(kept, meet, f)
@@ -76,8 +98,9 @@ fn add_first(
     ensures apart { AllPairs IsApart kept.new.items }
     ensures under { OnOk result ((u : List ℤ) → under kept.new.items u ≡ (under kept.old.items u || (at_or_below u f.now && under column.now u))) }
 {
+    let mut likely = 0;
     for j in 0..column.len() {
-        add_meet(alloc, f, &column[j], kept, f)?;
+        add_meet(alloc, f, &column[j], kept, f, &mut likely)?;
     }
     Ok(())
 }
@@ -98,8 +121,9 @@ fn add_more(
     ensures apart { AllPairs IsApart kept.new.items }
     ensures under { OnOk result ((u : List ℤ) → under kept.new.items u ≡ (under kept.old.items u || (at_or_below u piece.now && under column.now u))) }
 {
+    let mut likely = 0;
     for j in 0..column.len() {
-        add_meet(alloc, piece, &column[j], kept, f)?;
+        add_meet(alloc, piece, &column[j], kept, f, &mut likely)?;
     }
     Ok(())
 }

@@ -4,7 +4,7 @@ use Rattle.std.specs.declared.alloc.Global.{Global}
 use Rattle.game_core.specs.Columns.{AreColumns}
 use Rattle.game_core.proofs.ColumnReads.{empty_columns}
 use Rattle.game_core.proofs.Settled.{settled_puts}
-use Rattle.game_core.proofs.solvers.solve.Goals as goal
+use Rattle.game_core.proofs.solvers.solve_from.Goals as goal
 
 pub refine_all-requires-clause-columns : goal.refine_all-requires-clause-columns
 refine_all-requires-clause-columns c =
