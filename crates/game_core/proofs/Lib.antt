@@ -6,6 +6,7 @@ pub mod Extents
 pub mod Failing
 pub mod First
 pub mod FullColumns
+pub mod Flats
 pub mod Greatest
 pub mod Kept
 pub mod KeptCovered

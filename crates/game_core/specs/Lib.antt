@@ -2,6 +2,7 @@ pub mod Board
 pub mod Columns
 pub mod Commit
 pub mod Entries
+pub mod Flat
 pub mod Front
 pub mod Known
 pub mod Pending

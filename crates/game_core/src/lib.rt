@@ -2,6 +2,7 @@
 #![tactic(auto)]
 
 mod boards;
+mod columns;
 mod commits;
 mod exchanges;
 mod fronts;
@@ -15,6 +16,7 @@ mod sames;
 mod searches;
 mod solvers;
 mod starts;
+mod tops;
 
 pub use boards::{Board, Committed};
 pub use jobs::{Job, Outcome, work};

@@ -17,6 +17,7 @@ ghost use Rattle.game_core.specs.Remains.{AreRemains};
 ghost use Rattle.game_core.specs.Solved.{Covers, IsLost, IsSettled, IsSolution};
 ghost use Rattle.game_core.specs.Start.{IsAttempt, IsStart};
 
+use crate::columns::Column;
 use crate::commits::put_left;
 use crate::exchanges::{Entries, exchange};
 use crate::fronts::{Note, is_under, next_entry, no_columns};
@@ -51,7 +52,7 @@ fn look_at_all(
     plan: &[Vec<u64>],
     vectors: &[Counters],
     notes: &mut [Note],
-    columns: &mut [Vec<Counters>],
+    columns: &mut [Column],
     slots: usize,
 ) -> Result<Option<Found>, AllocError>
     requires plan { IsPlan g.now plan.now }
@@ -86,7 +87,7 @@ fn settle(
     vectors: &[Counters],
     pending: &mut [bool],
     notes: &mut [Note],
-    columns: &mut [Vec<Counters>],
+    columns: &mut [Column],
     slots: usize,
 ) -> Result<Option<Found>, AllocError>
     requires plan { IsPlan g.now plan.now }
@@ -150,7 +151,7 @@ fn refine_all(
     g: &Game,
     plan: &[Vec<u64>],
     entries: &mut Entries,
-    columns: &mut [Vec<Counters>],
+    columns: &mut [Column],
     slots: usize,
     whole: bool,
 ) -> Result<bool, AllocError>
