@@ -1,13 +1,11 @@
 -- A successor is at or below a vector exactly where the source is at or below its predecessor.
-use Rattle.std.proofs.Common.{◌≡◌, ℕ, zero, suc, ◌+◌, ◌-◌, ◌<◌, ◌≤◌, Bool, true, false, ◌&&◌, List, [], ◌∷◌, length, map, refl, sym, ◌∙◌, ap, arith, rules, cond, subst}
-use Rattle.std.specs.Prelude.{ℤ, pos, negsuc, ◌≤ℤ◌, ◌+ℤ◌, nat_le, min, int_le}
-use Rattle.std.specs.Int.{int_max, int_min}
+use Rattle.std.proofs.Common.{◌≡◌, ℕ, zero, suc, ◌+◌, ◌<◌, Bool, true, false, List, [], ◌∷◌, length, map, refl, sym, arith, subst}
+use Rattle.std.specs.Prelude.{ℤ, pos, negsuc, ◌≤ℤ◌}
 use Rattle.std.proofs.lemmas.Int.{ints, clamps}
 use Rattle.std.proofs.lemmas.List.FromFn.{get_or-map-range_with_len, length-map-range_with_len}
-use Rattle.std.specs.List.{range_with_len}
 use Rattle.game_form.specs.declared.actions.Step.{Step}
-use Rattle.game_form.specs.Game.{GameData, lanes, action_at, row_at, IsGame, IsAction}
-use Rattle.game_form.specs.Vector.{IsVector, lane, vector, number, brought, arrived, allowed_for, allowed, bound, size_of, successor, predecessor}
+use Rattle.game_form.specs.Game.{GameData, lanes, action_at, row_at, IsGame}
+use Rattle.game_form.specs.Vector.{IsVector, lane, vector, number, brought, arrived, allowed_for, allowed, bound, successor, predecessor}
 use Rattle.counter_vec.proofs.Along.{pos-size_of, allowed_at_most}
 use Rattle.counter_vec.specs.Counters.{at_or_below}
 use Rattle.counter_vec.proofs.Vectors.{at_or_below-lanes, lanes-at_or_below, allowed_low}

@@ -3,7 +3,7 @@ use Rattle.std.proofs.Common.{◌≡◌, ℕ, zero, suc, ◌<◌, ◌≤◌, Boo
 use Rattle.std.proofs.lemmas.List.{length-replicate, get_or-replicate}
 use Rattle.std.proofs.lemmas.Bool.{cases_eq}
 use Rattle.std.proofs.Math.Seq.{take-append_seam}
-use Rattle.std.specs.Prelude.{ℤ, pos, negsuc, int_le, ◌≤ℤ◌, slice_set, Some, None, ◌≢◌, IsTrue, min}
+use Rattle.std.specs.Prelude.{ℤ, pos, negsuc, int_le, ◌≤ℤ◌, ◌+ℤ◌, slice_set, Some, None, ◌≢◌, IsTrue, min}
 use Rattle.std.proofs.lemmas.Int.{ints, clamps}
 use Rattle.std.proofs.lemmas.List.FromFn.{fill_by_all}
 use Rattle.std.specs.Ordering.{int_cmp, nat_cmp, ordering_then}
@@ -15,7 +15,7 @@ use Rattle.game_form.specs.Game.{row_at}
 use Rattle.game_form.specs.Vector.{lane, vector, begins, arrived, allowed, allowed_for, number}
 use Rattle.lane_ops.specs.Lanes as ops
 use Rattle.lane_ops.specs.Lanes.{IsAtOrBelow}
-use Rattle.counter_vec.specs.Counters.{at_or_below, lexicographic, met, AreCounters}
+use Rattle.counter_vec.specs.Counters.{at_or_below, lexicographic, lifted, met, AreCounters}
 
 pub vector_of : (f : ℕ → ℤ) (v : List ℤ) (n : ℕ) → length v ≡ n → ((p : ℕ) → p < n → lane v p ≡ f p) → v ≡ vector n f
 vector_of f v n h each = fill_by_all f v n (pos 0) h each
@@ -195,4 +195,41 @@ met_of (x ∷ u) [] (z ∷ w) e f each = absurd (omega arith)
 met_of (x ∷ u) (y ∷ v) (z ∷ w) e f each =
     let first : z ≡ int_min x y = each 0 (omega arith) in
     let rest : w ≡ met u v = met_of u v w (omega arith) (omega arith) (λ p lt. each (suc p) (omega arith)) in
+    cc
+
+length-met : (u v : List ℤ) → length u ≡ length v → length (met u v) ≡ length u
+length-met [] v e = refl
+length-met (x ∷ u) [] e = absurd (omega arith)
+length-met (x ∷ u) (y ∷ v) e = let h = length-met u v (omega arith) in omega arith
+
+lane-met : (u v : List ℤ) (p : ℕ) → length u ≡ length v → p < length u → lane (met u v) p ≡ int_min (lane u p) (lane v p)
+lane-met [] v p e lt = absurd (omega arith)
+lane-met (x ∷ u) [] p e lt = absurd (omega arith)
+lane-met (x ∷ u) (y ∷ v) zero e lt = refl
+lane-met (x ∷ u) (y ∷ v) (suc p) e lt = lane-met u v p (omega arith) (omega arith)
+
+-- what the comparison of the lanes says of the meet
+pub met_decided : (u v w : List ℤ) (b : Bool) → length u ≡ length v → length u ≡ length w
+    → (IsTrue b → (p : ℕ) → p < length u → int_min (lane u p) (lane v p) ≤ℤ lane w p)
+    → (((p : ℕ) → p < length u → int_min (lane u p) (lane v p) ≤ℤ lane w p) → IsTrue b)
+    → b ≡ at_or_below (met u v) w
+met_decided u v w b e f there back =
+    let size : length (met u v) ≡ length u = length-met u v e in
+    below_decided (met u v) w b
+    (λ h. record { same_length = size ∙ f; lanes = λ p lt. subst (λ x. x ≤ℤ lane w p) (sym (lane-met u v p e (omega arith))) (there h p (omega arith)) })
+    (λ h. back (λ p lt. subst (λ x. x ≤ℤ lane w p) (lane-met u v p e lt) (h.lanes p (omega arith))))
+
+pub met_lengths_differ : (u v w : List ℤ) → length u ≡ length v → (length u ≡ length w → ⊥) → eqb (length u) (length w) ≡ at_or_below (met u v) w
+met_lengths_differ u v w e ne =
+    let size : length (met u v) ≡ length u = length-met u v e in
+    ap (λ n. eqb n (length w)) (sym size) ∙ lengths_differ (met u v) w (λ h. ne (sym size ∙ h))
+
+-- the lanes of a list that has each number more
+pub lifted_of : (by : ℤ) (v w : List ℤ) → length w ≡ length v → ((p : ℕ) → p < length w → lane w p ≡ lane v p +ℤ by) → w ≡ lifted by v
+lifted_of by [] [] e each = refl
+lifted_of by [] (z ∷ w) e each = absurd (omega arith)
+lifted_of by (x ∷ v) [] e each = absurd (omega arith)
+lifted_of by (x ∷ v) (z ∷ w) e each =
+    let first : z ≡ x +ℤ by = each 0 (omega arith) in
+    let rest : w ≡ lifted by v = lifted_of by v w (omega arith) (λ p lt. each (suc p) (omega arith)) in
     cc

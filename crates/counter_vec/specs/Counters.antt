@@ -1,5 +1,5 @@
 -- Vectors of counters: their partial order lane by lane, and their lexicographic order.
-use Rattle.std.specs.Prelude.{ℕ, ℤ, negsuc, ◌<◌, ◌≤ℤ◌, Bool, true, false, ◌&&◌, List, [], ◌∷◌, length, int_le}
+use Rattle.std.specs.Prelude.{ℕ, ℤ, negsuc, ◌<◌, ◌≤ℤ◌, ◌+ℤ◌, Bool, true, false, ◌&&◌, List, [], ◌∷◌, length, map, int_le}
 use Rattle.std.specs.Int.{int_min}
 use Rattle.std.specs.Ordering.{int_cmp}
 use Rattle.std.specs.Cmp.Lexicographic.{slice_cmp}
@@ -22,6 +22,10 @@ abbrev pub met : List ℤ → List ℤ → List ℤ
 met [] v = []
 met (x ∷ u) [] = []
 met (x ∷ u) (y ∷ v) = int_min x y ∷ met u v
+
+-- each number more by a number
+abbrev pub lifted : ℤ → List ℤ → List ℤ
+lifted by v = map (λ x. x +ℤ by) v
 
 -- each number is at least -1
 abbrev pub AreCounters : List ℤ → Type 0

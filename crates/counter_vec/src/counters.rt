@@ -3,10 +3,10 @@
 ghost use Rattle.std.specs.Prelude.{◌≡◌, ◌<◌, ◌≤◌, ◌≤ℤ◌, ◌<ℤ◌, ◌+ℤ◌, ◌↔◌, ℕ, pos, negsuc, length, slice_index_or, IfOk, IsTrue};
 ghost use Rattle.std.specs.Int.{int_min};
 
-use crate::flows::{compare_lanes, lanes_at_or_below, lower_all, raise_all};
+use crate::flows::{compare_lanes, lanes_at_or_below, lower_all, met_lanes_at_or_below, raise_all};
 use antichain_list::Entry;
 use game_form::Game;
-use lane_ops::{meet_into, over};
+use lane_ops::{lift_into, meet_into, over};
 use std::alloc::{AllocError, Global};
 use std::cmp::Ordering;
 use std::marker::Model;
@@ -29,7 +29,7 @@ impl Model for Counters {
 }
 
 impl Counters {
-    ghost use Rattle.counter_vec.specs.Counters.{AreCounters, lexicographic, met};
+    ghost use Rattle.counter_vec.specs.Counters.{AreCounters, at_or_below, lexicographic, lifted, met};
     ghost use Rattle.game_form.specs.Vector.{IsVector, lane, top, initial, successor, predecessor};
     ghost use Rattle.game_form.specs.Game.{lanes};
 
@@ -107,6 +107,25 @@ impl Counters {
     {
         let mut lanes = vec![in alloc; -1; self.lanes.len()]?;
         meet_into(&self.lanes, &other.lanes, &mut lanes);
+        Ok(Counters { lanes })
+    }
+
+    /// Whether the smaller number of each lane is at most that of `high`, without memory for the meet.
+    pub fn meet_at_or_below(&self, other: &Counters, high: &Counters) -> bool
+        requires { length self.now ≡ length other.now }
+        ensures { result ≡ at_or_below (met self.now other.now) high.now }
+    {
+        met_lanes_at_or_below(&self.lanes, &other.lanes, &high.lanes)
+    }
+
+    /// Each number more by `by`, which is at most 10,000 as each number is.
+    pub fn lift(&self, alloc: Global, by: i16) -> Result<Counters, AllocError>
+        requires by { (pos 0 ≤ℤ by) × (by ≤ℤ pos 10000) }
+        requires high { (q : ℕ) → q < length self.now → lane self.now q ≤ℤ pos 10000 }
+        ensures { IfOk result (λ v. v ≡ lifted by self.now) }
+    {
+        let mut lanes = vec![in alloc; -1; self.lanes.len()]?;
+        lift_into(&self.lanes, by, &mut lanes);
         Ok(Counters { lanes })
     }
 

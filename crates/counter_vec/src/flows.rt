@@ -4,10 +4,10 @@ ghost use Rattle.std.specs.Prelude.{◌≡◌, ◌<◌, ◌≤◌, ◌≤ℤ◌,
 ghost use Rattle.std.specs.Int.{int_max};
 ghost use Rattle.game_form.specs.Vector.{IsVector, lane, bound, size_of, number, brought, arrived, allowed, allowed_for};
 ghost use Rattle.game_form.specs.Game.{lanes, action_at, row_at, IsRow};
-ghost use Rattle.counter_vec.specs.Counters.{AreCounters, at_or_below, lexicographic};
+ghost use Rattle.counter_vec.specs.Counters.{AreCounters, at_or_below, lexicographic, met};
 
 use game_form::{Game, Step};
-use lane_ops::{first_differs, le};
+use lane_ops::{first_differs, le, meet_le};
 use std::cmp::Ordering;
 
 /// Raises each lane of `out` to what the lanes of `f` bring it under an action.
@@ -109,6 +109,14 @@ pub fn lanes_at_or_below(a: &[i16], b: &[i16]) -> bool
     ensures { result ≡ at_or_below a.now b.now }
 {
     a.len() == b.len() && le(a, b)
+}
+
+/// Whether the lengths are equal, and the smaller number of each lane of `a` and `b` is at most that of `c`.
+pub fn met_lanes_at_or_below(a: &[i16], b: &[i16], c: &[i16]) -> bool
+    requires { length a.now ≡ length b.now }
+    ensures { result ≡ at_or_below (met a.now b.now) c.now }
+{
+    a.len() == c.len() && meet_le(a, b, c)
 }
 
 /// The lexicographic order.

@@ -6,7 +6,7 @@ use Rattle.std.specs.declared.alloc.Global.{Global}
 use Rattle.std.proofs.lemmas.Bool.{cases_lt}
 use Rattle.std.proofs.lemmas.List.{get_or_append_left, get_or_push, get_or_default}
 use Rattle.std.proofs.lemmas.List.Elements.{All-push}
-use Rattle.game_core.specs.Columns.{column_at}
+use Rattle.game_core.specs.Columns.{column_at, ColumnData}
 use Rattle.game_core.specs.Front.{Misses}
 use Rattle.game_core.specs.Tried.{AreOptions, FailsEach}
 
@@ -31,7 +31,7 @@ options_pushed plan failing d a h lt new k r e below within = go (cases_lt k (le
         let is : k ≡ length failing = omega (arith, length-append failing (a ∷ [])) in
         subst P (sym (get_or_push failing a e k (sym is))) (at_end is)
 
-pub fails_pushed : (f : List ℤ) (columns : List (Vec (List ℤ) Global)) (plan : List (Vec ℕ Global)) (c : ℕ) (failing options : List ℕ) (d : Vec ℕ Global) (a : ℕ)
+pub fails_pushed : (f : List ℤ) (columns : List ColumnData) (plan : List (Vec ℕ Global)) (c : ℕ) (failing options : List ℕ) (d : Vec ℕ Global) (a : ℕ)
     → FailsEach f columns plan c failing → c < length plan → options ≡ (slice_index_or plan c d).items → Contains options a → a < length columns
     → Misses f (column_at columns a) → FailsEach f columns plan (c + 1) (failing ++ a ∷ [])
 fails_pushed f columns plan c failing options d a h lt is member within miss = record {

@@ -12,14 +12,14 @@ use Rattle.counter_vec.proofs.Galois.{galois}
 use Rattle.game_form.specs.Game.{GameData, IsGame}
 use Rattle.game_form.specs.Vector.{IsVector, successor, predecessor}
 use Rattle.cpre_step.specs.Refinement.{action_works}
-use Rattle.game_core.specs.Columns.{AreColumns, AreFull, HaveGrown, column_at, some_covers, each_covers}
+use Rattle.game_core.specs.Columns.{AreColumns, AreFull, HaveGrown, column_at, some_covers, each_covers, ColumnData}
 use Rattle.game_core.specs.Front.{under}
 use Rattle.game_core.specs.Plan.{AreActions, each_planned}
 use Rattle.game_core.proofs.ColumnReads.{column_of, column_here, column_there}
 use Rattle.game_core.proofs.Works.{any_weaker, all_weaker}
 
 -- a column is written
-pub grown_set : (first columns : List (Vec (List ℤ) Global)) (at : ℕ) (r c : Vec (List ℤ) Global) → HaveGrown first columns → at < length columns
+pub grown_set : (first columns : List ColumnData) (at : ℕ) (r c : ColumnData) → HaveGrown first columns → at < length columns
     → length (slice_index_or columns at r).items ≤ length c.items → HaveGrown first (slice_set columns at c)
 grown_set first columns at r c h lt more other = go (cases_eq other at)
   where
@@ -34,7 +34,7 @@ grown_set first columns at r c h lt more other = go (cases_eq other at)
         let old = h other in
         omega arith
 
-full_set : (vectors : List (List ℤ)) (columns : List (Vec (List ℤ) Global)) (at : ℕ) (c : Vec (List ℤ) Global) (options : List ℕ) → at < length columns
+full_set : (vectors : List (List ℤ)) (columns : List ColumnData) (at : ℕ) (c : ColumnData) (options : List ℕ) → at < length columns
     → length c.items ≡ length vectors → AreFull vectors columns options → AreFull vectors (slice_set columns at c) options
 full_set vectors columns at c options lt full h k d within = go (slice_index_or options k d) (h k d within)
   where
@@ -44,7 +44,7 @@ full_set vectors columns at c options lt full h k d within = go (slice_index_or 
       | inr ne ↦ ap length (column_there columns at other c ne) ∙ old
     ]
 
-pub full_more : (vectors : List (List ℤ)) (columns : List (Vec (List ℤ) Global)) (c : Vec (List ℤ) Global) (options : List ℕ) (i : ℕ) → i < length options
+pub full_more : (vectors : List (List ℤ)) (columns : List ColumnData) (c : ColumnData) (options : List ℕ) (i : ℕ) → i < length options
     → slice_index_or options i 0 < length columns → length c.items ≡ length vectors → AreFull vectors columns (take i options)
     → AreFull vectors (slice_set columns (slice_index_or options i 0) c) (take (i + 1) options)
 full_more vectors columns c options i lt within full h =
@@ -54,7 +54,7 @@ full_more vectors columns c options i lt within full h =
     (ap length (column_here columns at c within) ∙ full)
 
 -- what is full stays so
-full_kept : (g : GameData) (vectors : List (List ℤ)) (old new : List (Vec (List ℤ) Global)) (options : List ℕ) → AreColumns g vectors new → HaveGrown old new
+full_kept : (g : GameData) (vectors : List (List ℤ)) (old new : List ColumnData) (options : List ℕ) → AreColumns g vectors new → HaveGrown old new
     → AreActions (length g.actions) options → AreFull vectors old options → AreFull vectors new options
 full_kept g vectors old new options h grown actions full k d lt =
     let a : ℕ = slice_index_or options k d in
@@ -63,7 +63,7 @@ full_kept g vectors old new options h grown actions full k d lt =
     let e : length (column_at old a) ≡ length vectors = full k d lt in
     omega arith
 
-pub plan_full_more : (g : GameData) (vectors : List (List ℤ)) (old new : List (Vec (List ℤ) Global)) (plan : List (Vec ℕ Global)) (i : ℕ) (d : Vec ℕ Global) (options : List ℕ)
+pub plan_full_more : (g : GameData) (vectors : List (List ℤ)) (old new : List ColumnData) (plan : List (Vec ℕ Global)) (i : ℕ) (d : Vec ℕ Global) (options : List ℕ)
     → i < length plan → options ≡ (slice_index_or plan i d).items → AreColumns g vectors new → HaveGrown old new → All (λ c. AreActions (length g.actions) c.items) plan
     → All (λ c. AreFull vectors old c.items) (take i plan) → AreFull vectors new options → All (λ c. AreFull vectors new c.items) (take (i + 1) plan)
 plan_full_more g vectors old new plan i d options lt is h grown actions full more =
@@ -79,7 +79,7 @@ all_at p xs i d lt h = go (p (slice_index_or xs i d)) refl
     go true e = refl
     go false e = let none : list_all p xs ≡ false = list_all_at p xs i d lt e in cc
 
-module _ (g : GameData) (known : IsGame g) (vectors : List (List ℤ)) (fit : All (IsVector g) vectors) (columns : List (Vec (List ℤ) Global)) (h : AreColumns g vectors columns) where
+module _ (g : GameData) (known : IsGame g) (vectors : List (List ℤ)) (fit : All (IsVector g) vectors) (columns : List ColumnData) (h : AreColumns g vectors columns) where
   -- an action that leads u to an entry has an entry whose predecessor is at or above u
   covers_where_works : (u : List ℤ) → IsVector g u → (action : ℕ) → action < length g.actions → length (column_at columns action) ≡ length vectors
       → action_works g vectors u action ≡ true → under (column_at columns action) u ≡ true

@@ -9,9 +9,11 @@ pub mod Extents
 pub mod Failing
 pub mod First
 pub mod FullColumns
+pub mod Flats
 pub mod Greatest
 pub mod Kept
 pub mod KeptCovered
+pub mod Lifts
 pub mod Lists
 pub mod Moments
 pub mod Options

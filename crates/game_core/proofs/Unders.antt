@@ -10,7 +10,7 @@ use Rattle.std.proofs.lemmas.List.Quantifiers.{all_pairs_push}
 use Rattle.antichain_list.specs.Covering.{covered-trans, covered-without_below}
 use Rattle.counter_vec.specs.Counters.{at_or_below, lexicographic}
 use Rattle.counter_vec.specs.Orders.{counters_order, below-trans}
-use Rattle.game_core.specs.Columns.{column_at, some_covers, each_covers}
+use Rattle.game_core.specs.Columns.{column_at, some_covers, each_covers, ColumnData}
 use Rattle.game_core.specs.Front.{IsApart, Misses, under}
 
 or_false : (b : Bool) → (b || false) ≡ b
@@ -113,7 +113,7 @@ pub meets_none : (u v : List ℤ) (first : List (List ℤ)) → under first u �
 meets_none u v first = sym (ap (λ b. under first u || b) (and_false (at_or_below u v)) ∙ or_false (under first u))
 
 -- one more option of which some is covered
-pub options_more : (u f : List ℤ) (now new : List (List ℤ)) (columns : List (Vec (List ℤ) Global)) (options : List ℕ) (i : ℕ) → i < length options
+pub options_more : (u f : List ℤ) (now new : List (List ℤ)) (columns : List ColumnData) (options : List ℕ) (i : ℕ) → i < length options
     → under now u ≡ (at_or_below u f && some_covers u columns (take i options))
     → under new u ≡ (under now u || (at_or_below u f && under (column_at columns (slice_index_or options i 0)) u))
     → under new u ≡ (at_or_below u f && some_covers u columns (take (i + 1) options))
@@ -143,7 +143,7 @@ narrowed_more u p now new pieces column i lt is old made =
     ∙ ap (λ b. b && under column u) (sym more)
 
 -- one more option, all of which are covered
-pub class_more : (u : List ℤ) (first : Bool) (now new : List (List ℤ)) (columns : List (Vec (List ℤ) Global)) (options : List ℕ) (i : ℕ) → i < length options
+pub class_more : (u : List ℤ) (first : Bool) (now new : List (List ℤ)) (columns : List ColumnData) (options : List ℕ) (i : ℕ) → i < length options
     → under now u ≡ (first && each_covers u columns (take i options))
     → under new u ≡ (under now u && under (column_at columns (slice_index_or options i 0)) u)
     → under new u ≡ (first && each_covers u columns (take (i + 1) options))
@@ -178,7 +178,7 @@ class_step true false false h = refl
 class_step false x y h = refl
 
 -- one more class, with a failing option of it
-pub classes_more : (u f : List ℤ) (now pieces new : List (List ℤ)) (columns : List (Vec (List ℤ) Global)) (plan : List (Vec ℕ Global)) (options : List ℕ) (failing c : ℕ) (d : Vec ℕ Global) → c < length plan
+pub classes_more : (u f : List ℤ) (now pieces new : List (List ℤ)) (columns : List ColumnData) (plan : List (Vec ℕ Global)) (options : List ℕ) (failing c : ℕ) (d : Vec ℕ Global) → c < length plan
     → options ≡ (slice_index_or plan c d).items
     → Contains (slice_index_or plan c d).items failing
     → under now u ≡ (at_or_below u f && list_any (λ o. each_covers u columns o.items) (take c plan))
@@ -235,3 +235,7 @@ rest_apart p all rest is h i j d less lt = let apart : AllPairs IsApart (p ∷ r
 
 pub first_apart : (p : List ℤ) (all rest : List (List ℤ)) → all ≡ p ∷ rest → AllPairs IsApart all → Misses p rest
 first_apart p all rest is h k d lt = let apart : AllPairs IsApart (p ∷ rest) = subst (AllPairs IsApart) is h in (apart zero (suc k) d (omega arith) (omega arith)).0
+
+-- what no vector of a list is at or above, and none is below, is comparable with none
+pub apart_from : (p : List ℤ) (xs : List (List ℤ)) → All (λ e. at_or_below e p ≡ false) xs → under xs p ≡ false → All (λ e. IsApart e p) xs
+apart_from p xs above h = let miss = misses_from p xs h in λ k d lt. (above k d lt, miss k d lt)

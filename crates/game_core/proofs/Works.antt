@@ -16,7 +16,7 @@ use Rattle.game_form.specs.declared.actions.Step.{Step}
 use Rattle.game_form.specs.Game.{GameData, ClassData, IsGame, row_at, action_at, lanes}
 use Rattle.game_form.specs.Vector.{IsVector, lane, number, brought, arrived, bound, successor, predecessor}
 use Rattle.cpre_step.specs.Refinement.{action_works, answers, answers_by}
-use Rattle.game_core.specs.Columns.{AreColumns, column_at, some_covers, each_covers}
+use Rattle.game_core.specs.Columns.{AreColumns, column_at, some_covers, each_covers, ColumnData}
 use Rattle.game_core.specs.Front.{under}
 use Rattle.game_core.specs.Plan.{AreActions, IsAtMost, IsPlan, replaces_by, each_planned, each_class}
 use Rattle.game_core.proofs.Orders.{below_from}
@@ -30,7 +30,7 @@ all_weaker p q (x ∷ xs) each h =
     let parts = and_parts (p x) (list_all p xs) h in
     rw (each zero x (omega arith) parts.0, all_weaker p q xs (λ k d lt. each (suc k) d (omega arith)) parts.1)
 
-module _ (g : GameData) (known : IsGame g) (vectors : List (List ℤ)) (f : List ℤ) (fit : All (IsVector g) vectors) (is : IsVector g f) (columns : List (Vec (List ℤ) Global)) (h : AreColumns g vectors columns) where
+module _ (g : GameData) (known : IsGame g) (vectors : List (List ℤ)) (f : List ℤ) (fit : All (IsVector g) vectors) (is : IsVector g f) (columns : List ColumnData) (h : AreColumns g vectors columns) where
   -- an entry whose predecessor under the action is at or above f answers f
   column_works : (action : ℕ) → action < length g.actions → under (column_at columns action) f ≡ true → action_works g vectors f action ≡ true
   column_works action lt hit =

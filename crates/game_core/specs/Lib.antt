@@ -3,6 +3,7 @@ pub mod Columns
 pub mod Commit
 pub mod Entries
 pub mod Example
+pub mod Flat
 pub mod Front
 pub mod Journal
 pub mod Known
@@ -12,5 +13,6 @@ pub mod Plan
 pub mod Remains
 pub mod Rounds
 pub mod Solved
+pub mod Start
 pub mod Tried
 pub mod World

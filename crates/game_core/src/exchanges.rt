@@ -7,28 +7,16 @@ ghost use Rattle.game_form.specs.Game.{GameData, lanes};
 ghost use Rattle.game_form.specs.Vector.{IsVector, bound};
 ghost use Rattle.game_core.specs.Entries.{AreEntries};
 ghost use Rattle.game_core.specs.Front.{IsApart, IsPiece, Misses, under, extent};
-ghost use Rattle.game_core.specs.Columns.{AreColumns, IsColumn};
+ghost use Rattle.game_core.specs.Columns.{AreColumns, ColumnData, IsColumn};
 ghost use Rattle.game_core.specs.Known.{HaveAnswers};
 ghost use Rattle.game_core.specs.Remains.{AreRemains, KeepsAnswered};
 ghost use Rattle.counter_vec.specs.Counters.{at_or_below};
 
-use crate::fronts::{Note, forget_place, sum_of};
-use antichain_list::Entry;
+use crate::columns::Column;
+use crate::fronts::{Note, forget_place, is_under, sum_of};
 use counter_vec::Counters;
 use game_form::Game;
 use std::alloc::{AllocError, Global};
-
-/// Whether `v` is comparable with no entry.
-fn is_apart(vectors: &[Counters], v: &Counters) -> bool
-    ensures { IsTrue result ↔ All (λ e. IsApart e v.now) vectors.now }
-{
-    for e in vectors {
-        if v.at_or_below(e) || e.at_or_below(v) {
-            return false;
-        }
-    }
-    true
-}
 
 /// Forgets entry `gone` in one note. Says whether it was there.
 fn forget_in(note: &mut Note, gone: usize) -> bool
@@ -53,16 +41,16 @@ fn forget(notes: &mut Vec<Note>, pending: &mut Vec<bool>, gone: usize)
 
 /// Takes place `gone` out of a column, where it has it.
 #[tactic(auto, using(crate::proofs::ColumnReads::column_kept))]
-fn drop_from(column: &mut Vec<Counters>, gone: usize)
+fn drop_from(column: &mut Column, gone: usize)
     ensures { (g : GameData) (action : ℕ) (vectors : List (List ℤ)) → gone < length vectors → IsColumn g action vectors column.old.items → IsColumn g action (remove vectors gone) column.new.items }
 {
     if gone < column.len() {
-        column.remove(gone);
+        column.take(gone);
     }
 }
 
 /// Takes place `gone` out of each column that has it.
-fn drop_place(columns: &mut [Vec<Counters>], gone: usize)
+fn drop_place(columns: &mut [Column], gone: usize)
     ensures { (g : GameData) (vectors : List (List ℤ)) → gone < length vectors → AreColumns g vectors columns.old → AreColumns g (remove vectors gone) columns.new }
 {
     for at in 0..columns.len() {
@@ -100,7 +88,7 @@ fn push_entry(
     Ok(())
 }
 
-/// Puts one piece of `f`, where it is comparable with no entry.
+/// Puts one piece of `f`, where no entry is at or above it. None is below it, since none is below `f`.
 #[tactic(auto, using(crate::proofs::Replacements::entries_pushed, crate::proofs::Replacements::misses_pushed, crate::proofs::Replacements::under_pushed, crate::proofs::ColumnReads::columns_pushed))]
 fn put_piece(
     alloc: Global,
@@ -119,16 +107,17 @@ fn put_piece(
     ensures misses { OnOk result (Misses f.now entries.new.vectors.items) }
     ensures whole { OnOk result ((u : List ℤ) → under entries.new.vectors.items u ≡ (under entries.old.vectors.items u || at_or_below u piece)) }
     ensures rest { OnOk result ((rest : List (List ℤ)) → Misses piece rest → All (λ e. Misses e rest) entries.old.vectors.items → All (λ e. Misses e rest) entries.new.vectors.items) }
-    ensures columns { OnOk result ((columns : List (Vec (List ℤ) Global)) → AreColumns g.now entries.old.vectors.items columns → AreColumns g.now entries.new.vectors.items columns) }
+    ensures columns { OnOk result ((columns : List ColumnData) → AreColumns g.now entries.old.vectors.items columns → AreColumns g.now entries.new.vectors.items columns) }
     ensures under { (old : List (List ℤ)) → All (λ e. under (f.now ∷ old) e ≡ true) entries.old.vectors.items → OnOk result (All (λ e. under (f.now ∷ old) e ≡ true) entries.new.vectors.items) }
 {
-    if is_apart(&entries.vectors, &piece) {
-        push_entry(alloc, entries, piece, note)?;
+    if is_under(&entries.vectors, &piece) {
+        return Ok(());
     }
+    push_entry(alloc, entries, piece, note)?;
     Ok(())
 }
 
-/// Puts the pieces of `f` that are comparable with no entry.
+/// Puts the pieces of `f` at or above which no entry is.
 #[tactic(auto, using(crate::proofs::Replacements::under_more))]
 fn put_pieces(
     alloc: Global,
@@ -147,7 +136,7 @@ fn put_pieces(
     ensures whole { OnOk result ((u : List ℤ) → under entries.new.vectors.items u ≡ (under entries.old.vectors.items u || under pieces.items u)) }
     ensures entries { OnOk result (AreEntries g.now (vec_len note.now.answers) entries.new.vectors.items entries.new.pending.items entries.new.notes.items) }
     ensures misses { OnOk result (Misses f.now entries.new.vectors.items) }
-    ensures columns { OnOk result ((columns : List (Vec (List ℤ) Global)) → AreColumns g.now entries.old.vectors.items columns → AreColumns g.now entries.new.vectors.items columns) }
+    ensures columns { OnOk result ((columns : List ColumnData) → AreColumns g.now entries.old.vectors.items columns → AreColumns g.now entries.new.vectors.items columns) }
     ensures under { OnOk result (All (λ e. under (f.now ∷ entries.old.vectors.items) e ≡ true) entries.new.vectors.items) }
 {
     for piece in pieces {
@@ -177,13 +166,13 @@ fn take_entry(entries: &mut Entries, place: usize) -> (Counters, Note)
     (vector, note)
 }
 
-/// Replaces an entry by the pieces of it that are comparable with no other entry.
+/// Replaces an entry by the pieces of it that are at or below no other entry.
 #[tactic(auto, using(crate::proofs::Replacements::exchange_falls, crate::proofs::Replacements::misses_rest))]
 pub fn exchange(
     alloc: Global,
     g: &Game,
     entries: &mut Entries,
-    columns: &mut [Vec<Counters>],
+    columns: &mut [Column],
     place: usize,
     pieces: Vec<Counters>,
     slots: usize,

@@ -5,6 +5,7 @@ ghost use Rattle.std.specs.List.{All};
 ghost use Rattle.counter_vec.specs.Counters.{at_or_below};
 ghost use Rattle.game_core.specs.Front.{Misses, under};
 
+use crate::columns::Column;
 use antichain_list::Entry;
 use counter_vec::Counters;
 use std::alloc::{AllocError, Global};
@@ -40,13 +41,13 @@ pub fn no_answers(alloc: Global, count: usize) -> Result<Vec<Option<usize>>, All
 }
 
 /// So many columns, which are empty.
-pub fn no_columns(alloc: Global, count: usize) -> Result<Vec<Vec<Counters>>, AllocError>
+pub fn no_columns(alloc: Global, count: usize) -> Result<Vec<Column>, AllocError>
     ensures len { IfOk result (λ v. vec_len v ≡ count) }
     ensures empty { IfOk result (λ v. All (λ c. length c.items ≡ 0) v.items) }
 {
     let mut columns = Vec::with_capacity(alloc, count)?;
     for _ in 0..count {
-        columns.push(Vec::new(alloc))?;
+        columns.push(Column::empty(alloc))?;
     }
     Ok(columns)
 }

@@ -2,6 +2,7 @@
 #![tactic(auto)]
 
 mod boards;
+mod columns;
 mod commits;
 mod events;
 mod exchanges;
@@ -18,7 +19,9 @@ mod rounds;
 mod sames;
 mod searches;
 mod solvers;
+mod starts;
 mod steps;
+mod tops;
 mod worlds;
 
 pub use boards::{Board, Committed};
@@ -28,7 +31,8 @@ pub use jobs::{Job, Outcome, work};
 pub use laws::{
     answer_is_one, closed_is_held, held_is_closed, held_is_one, replay_is_one, replay_is_sound,
 };
-pub use solvers::{Solved, solve, solve_alone};
+pub use solvers::{Attempt, Solved, solve, solve_alone, solve_from};
+pub use starts::{everything, lift};
 pub use steps::Step;
 pub use worlds::World;
 

@@ -11,6 +11,7 @@ ghost use Rattle.game_core.specs.Plan.{AreActions, IsPlan, each_planned};
 ghost use Rattle.game_core.specs.Remains.{AreRemains};
 ghost use Rattle.game_core.specs.Tried.{HasTried};
 
+use crate::columns::Column;
 use crate::fronts::Note;
 use crate::refinements::{refine_classes, refine_options};
 use crate::searches::{answer_each, answer_one, fill};
@@ -28,7 +29,7 @@ pub fn look(
     vectors: &[Counters],
     f: &Counters,
     note: &mut Note,
-    columns: &mut [Vec<Counters>],
+    columns: &mut [Column],
 ) -> Result<Option<Vec<Counters>>, AllocError>
     requires plan { IsPlan g.now plan.now }
     requires vectors { All (IsVector g.now) vectors.now }
@@ -56,7 +57,7 @@ fn look_second(
     vectors: &[Counters],
     f: &Counters,
     note: &mut Note,
-    columns: &mut [Vec<Counters>],
+    columns: &mut [Column],
 ) -> Result<Option<Vec<Counters>>, AllocError>
     requires plan { All (λ c. AreActions (length g.now.actions) c.items) plan.now }
     requires vectors { All (IsVector g.now) vectors.now }
@@ -87,7 +88,7 @@ fn fill_all(
     g: &Game,
     plan: &[Vec<u64>],
     vectors: &[Counters],
-    columns: &mut [Vec<Counters>],
+    columns: &mut [Column],
 ) -> Result<(), AllocError>
     requires plan { All (λ c. AreActions (length g.now.actions) c.items) plan.now }
     requires vectors { All (IsVector g.now) vectors.now }
@@ -114,7 +115,7 @@ fn try_classes(
     plan: &[Vec<u64>],
     f: &Counters,
     note: &mut Note,
-    columns: &[Vec<Counters>],
+    columns: &[Column],
 ) -> Result<Tried, AllocError>
     requires plan { All (λ c. AreActions (length columns.now) c.items) plan.now }
     requires wide { All (λ c. vec_len c ≤ vec_len note.old.answers) plan.now }
@@ -139,7 +140,7 @@ fn look_first(
     vectors: &[Counters],
     f: &Counters,
     note: &mut Note,
-    columns: &mut [Vec<Counters>],
+    columns: &mut [Column],
 ) -> Result<Option<Vec<Counters>>, AllocError>
     requires plan { All (λ c. AreActions (length g.now.actions) c.items) plan.now }
     requires vectors { All (IsVector g.now) vectors.now }

@@ -1,15 +1,17 @@
 //! The maximal vectors below an entry from which a player can answer.
 
-ghost use Rattle.std.specs.Prelude.{◌≡◌, ◌<◌, ◌&&◌, ◌||◌, ℕ, List, ℤ, true, false, length, vec_len, IfOk, OnOk, not, slice_index_or};
+ghost use Rattle.std.specs.Prelude.{◌≡◌, ◌<◌, ◌&&◌, ◌||◌, ℕ, List, ℤ, true, false, length, vec_len, IfOk, IfSome, OnOk, not, slice_index_or};
 ghost use Rattle.std.specs.List.{All, AllPairs, filter, list_any};
-ghost use Rattle.counter_vec.specs.Counters.{at_or_below, AreCounters};
+ghost use Rattle.counter_vec.specs.Counters.{at_or_below, met, AreCounters};
 ghost use Rattle.game_core.specs.Columns.{column_at, some_covers, each_covers, MissesAll};
+ghost use Rattle.game_core.specs.Flat.{picked};
 ghost use Rattle.game_core.specs.Front.{IsApart, IsPiece, Misses, under};
 ghost use Rattle.game_core.specs.Plan.{AreActions};
 ghost use Rattle.game_form.specs.Game.{lanes};
 ghost use Rattle.game_core.specs.Tried.{AreOptions};
 ghost use Rattle.game_form.specs.Vector.{IsVector};
 
+use crate::columns::Column;
 use crate::fronts::is_under;
 use antichain_list::Entry;
 use counter_vec::Counters;
@@ -39,13 +41,31 @@ fn add_maximal(kept: &mut Vec<Counters>, piece: Counters, f: &Counters) -> Resul
     Ok(())
 }
 
-/// Adds what is at or below `v`, which is `f` or a piece of it, and a member of the column.
+/// The place of a vector at or above the meet of `v` and `p`, looked for at the place `likely` first.
+fn find_met(vectors: &[Counters], v: &Counters, p: &Counters, likely: usize) -> Option<usize>
+    requires { length v.now ≡ length p.now }
+    ensures { IfSome result (λ _. under vectors.now (met v.now p.now) ≡ true) }
+{
+    if likely < vectors.len() && v.meet_at_or_below(p, &vectors[likely]) {
+        return Some(likely);
+    }
+    for i in 0..vectors.len() {
+        if v.meet_at_or_below(p, &vectors[i]) {
+            return Some(i);
+        }
+    }
+    None
+}
+
+/// Adds what is at or below `v`, which is `f` or a piece of it, and a member of the column. `likely` is the place
+/// of the vector that was last at or above such a meet.
 fn add_meet(
     alloc: Global,
     v: &Counters,
     p: &Counters,
     kept: &mut Vec<Counters>,
     f: &Counters,
+    likely: &mut usize,
 ) -> Result<(), AllocError>
     requires same { length v.now ≡ length p.now }
     requires under { at_or_below v.now f.now ≡ true }
@@ -56,50 +76,79 @@ fn add_meet(
     ensures apart { AllPairs IsApart kept.new.items }
     ensures under { OnOk result ((u : List ℤ) → under kept.new.items u ≡ (under kept.old.items u || (at_or_below u v.now && at_or_below u p.now))) }
 {
+    if let Some(at) = find_met(kept, v, p, *likely) {
+        *likely = at;
+        return Ok(());
+    }
     let meet = v.meet(alloc, p)?;
     let _ = meet.lanes();
     add_maximal(kept, meet, f)
 }
 
-/// Adds what of `f` is at or below a member of a column that has nothing at or above `f`.
+/// Adds what of `f` is at or below a member at some places of a column that has nothing at or above `f`.
 fn add_first(
     alloc: Global,
     f: &Counters,
-    column: &[Counters],
+    column: &Column,
+    places: &[usize],
     kept: &mut Vec<Counters>,
 ) -> Result<(), AllocError>
-    requires same { All (λ p. length p ≡ length f.now) column.now }
-    requires strict { Misses f.now column.now }
+    requires same { All (λ p. length p ≡ length f.now) column.now.items }
+    requires places { All (λ i. i < length column.now.items) places.now }
+    requires strict { Misses f.now column.now.items }
     requires kept { All (IsPiece f.now) kept.old.items }
     requires apart { AllPairs IsApart kept.old.items }
     ensures kept { All (IsPiece f.now) kept.new.items }
     ensures apart { AllPairs IsApart kept.new.items }
-    ensures under { OnOk result ((u : List ℤ) → under kept.new.items u ≡ (under kept.old.items u || (at_or_below u f.now && under column.now u))) }
+    ensures under { OnOk result ((u : List ℤ) → under kept.new.items u ≡ (under kept.old.items u || (at_or_below u f.now && under (picked column.now.items places.now) u))) }
 {
-    for j in 0..column.len() {
-        add_meet(alloc, f, &column[j], kept, f)?;
+    let mut likely = 0;
+    for j in 0..places.len() {
+        add_meet(alloc, f, column.low(places[j]), kept, f, &mut likely)?;
     }
     Ok(())
 }
 
-/// Adds what of a piece of `f` is at or below a member of a column.
-fn add_more(
+/// Adds what of `f` is at or below a member of a column that has nothing at or above `f`.
+fn add_column(
     alloc: Global,
-    piece: &Counters,
-    column: &[Counters],
-    kept: &mut Vec<Counters>,
     f: &Counters,
+    column: &Column,
+    kept: &mut Vec<Counters>,
 ) -> Result<(), AllocError>
-    requires piece { IsPiece f.now piece.now }
-    requires same { All (λ p. length p ≡ length f.now) column.now }
+    requires same { All (λ p. length p ≡ length f.now) column.now.items }
+    requires strict { Misses f.now column.now.items }
     requires kept { All (IsPiece f.now) kept.old.items }
     requires apart { AllPairs IsApart kept.old.items }
     ensures kept { All (IsPiece f.now) kept.new.items }
     ensures apart { AllPairs IsApart kept.new.items }
-    ensures under { OnOk result ((u : List ℤ) → under kept.new.items u ≡ (under kept.old.items u || (at_or_below u piece.now && under column.now u))) }
+    ensures under { OnOk result ((u : List ℤ) → under kept.new.items u ≡ (under kept.old.items u || (at_or_below u f.now && under column.now.items u))) }
 {
-    for j in 0..column.len() {
-        add_meet(alloc, piece, &column[j], kept, f)?;
+    let tops = column.tops(alloc)?;
+    add_first(alloc, f, column, &tops, kept)
+}
+
+/// Adds what of a piece of `f` is at or below a member of a column at some places.
+fn add_more(
+    alloc: Global,
+    piece: &Counters,
+    column: &Column,
+    places: &[usize],
+    kept: &mut Vec<Counters>,
+    f: &Counters,
+) -> Result<(), AllocError>
+    requires piece { IsPiece f.now piece.now }
+    requires same { All (λ p. length p ≡ length f.now) column.now.items }
+    requires places { All (λ i. i < length column.now.items) places.now }
+    requires kept { All (IsPiece f.now) kept.old.items }
+    requires apart { AllPairs IsApart kept.old.items }
+    ensures kept { All (IsPiece f.now) kept.new.items }
+    ensures apart { AllPairs IsApart kept.new.items }
+    ensures under { OnOk result ((u : List ℤ) → under kept.new.items u ≡ (under kept.old.items u || (at_or_below u piece.now && under (picked column.now.items places.now) u))) }
+{
+    let mut likely = 0;
+    for j in 0..places.len() {
+        add_meet(alloc, piece, column.low(places[j]), kept, f, &mut likely)?;
     }
     Ok(())
 }
@@ -108,7 +157,7 @@ fn add_more(
 pub fn refine_options(
     alloc: Global,
     f: &Counters,
-    columns: &[Vec<Counters>],
+    columns: &[Column],
     options: &[u64],
 ) -> Result<Vec<Counters>, AllocError>
     requires options { AreActions (length columns.now) options.now }
@@ -120,7 +169,7 @@ pub fn refine_options(
 {
     let mut kept = Vec::new(alloc);
     for i in 0..options.len() {
-        add_first(alloc, f, &columns[options[i] as usize], &mut kept)?;
+        add_column(alloc, f, &columns[options[i] as usize], &mut kept)?;
     }
     Ok(kept)
 }
@@ -129,18 +178,19 @@ pub fn refine_options(
 fn narrowed(
     alloc: Global,
     pieces: &[Counters],
-    column: &[Counters],
+    column: &Column,
     f: &Counters,
 ) -> Result<Vec<Counters>, AllocError>
     requires pieces { All (IsPiece f.now) pieces.now }
-    requires same { All (λ p. length p ≡ length f.now) column.now }
+    requires same { All (λ p. length p ≡ length f.now) column.now.items }
     ensures pieces { IfOk result (λ v. All (IsPiece f.now) v.items) }
     ensures apart { IfOk result (λ v. AllPairs IsApart v.items) }
-    ensures under { IfOk result (λ v. (u : List ℤ) → under v.items u ≡ (under pieces.now u && under column.now u)) }
+    ensures under { IfOk result (λ v. (u : List ℤ) → under v.items u ≡ (under pieces.now u && under column.now.items u)) }
 {
+    let tops = column.tops(alloc)?;
     let mut kept = Vec::new(alloc);
     for i in 0..pieces.len() {
-        add_more(alloc, &pieces[i], column, &mut kept, f)?;
+        add_more(alloc, &pieces[i], column, &tops, &mut kept, f)?;
     }
     Ok(kept)
 }
@@ -149,7 +199,7 @@ fn narrowed(
 fn refine_class(
     alloc: Global,
     f: &Counters,
-    columns: &[Vec<Counters>],
+    columns: &[Column],
     options: &[u64],
     failing: u64,
 ) -> Result<Vec<Counters>, AllocError>
@@ -162,7 +212,7 @@ fn refine_class(
     ensures under { IfOk result (λ v. (u : List ℤ) → under v.items u ≡ ((at_or_below u f.now && under (column_at columns.now failing) u) && each_covers u columns.now options.now)) }
 {
     let mut pieces = Vec::new(alloc);
-    add_first(alloc, f, &columns[failing as usize], &mut pieces)?;
+    add_column(alloc, f, &columns[failing as usize], &mut pieces)?;
     for i in 0..options.len() {
         pieces = narrowed(alloc, &pieces, &columns[options[i] as usize], f)?;
     }
@@ -189,7 +239,7 @@ fn add_all(kept: &mut Vec<Counters>, pieces: Vec<Counters>, f: &Counters) -> Res
 pub fn refine_classes(
     alloc: Global,
     f: &Counters,
-    columns: &[Vec<Counters>],
+    columns: &[Column],
     plan: &[Vec<u64>],
     failing: &[u64],
 ) -> Result<Vec<Counters>, AllocError>

@@ -9,7 +9,7 @@ ghost use Rattle.game_core.specs.Front.{Misses, under};
 ghost use Rattle.game_core.specs.Plan.{AreActions};
 ghost use Rattle.game_core.specs.Columns.{AreColumns, AreFull, HaveGrown, IsColumn, MissesAll, column_at, some_covers, each_covers};
 
-use crate::fronts::find_cover;
+use crate::columns::Column;
 use antichain_list::Entry;
 use counter_vec::Counters;
 use game_form::Game;
@@ -21,7 +21,7 @@ fn fill_column(
     alloc: Global,
     g: &Game,
     vectors: &[Counters],
-    column: &mut Vec<Counters>,
+    column: &mut Column,
     action: u64,
 ) -> Result<(), AllocError>
     requires vectors { All (IsVector g.now) vectors.now }
@@ -42,7 +42,7 @@ pub fn fill(
     alloc: Global,
     g: &Game,
     vectors: &[Counters],
-    columns: &mut [Vec<Counters>],
+    columns: &mut [Column],
     options: &[u64],
 ) -> Result<(), AllocError>
     requires vectors { All (IsVector g.now) vectors.now }
@@ -60,13 +60,13 @@ pub fn fill(
 }
 
 /// Whether the entry of a place answers one of these options.
-fn is_answered(columns: &[Vec<Counters>], f: &Counters, options: &[u64], place: usize) -> bool
+fn is_answered(columns: &[Column], f: &Counters, options: &[u64], place: usize) -> bool
     requires { AreActions (length columns.now) options.now }
     ensures { IsTrue result → some_covers f.now columns.now options.now ≡ true }
 {
     for action in options {
         let column = &columns[*action as usize];
-        if place < column.len() && f.at_or_below(&column[place]) {
+        if place < column.len() && f.at_or_below(column.low(place)) {
             return true;
         }
     }
@@ -74,13 +74,13 @@ fn is_answered(columns: &[Vec<Counters>], f: &Counters, options: &[u64], place: 
 }
 
 /// An entry that answers one of these options.
-fn find_answer(columns: &[Vec<Counters>], f: &Counters, options: &[u64]) -> Option<usize>
+fn find_answer(columns: &[Column], f: &Counters, options: &[u64]) -> Option<usize>
     requires { AreActions (length columns.now) options.now }
     ensures some { IfSome result (λ _. some_covers f.now columns.now options.now ≡ true) }
     ensures none { IfNone result (MissesAll f.now columns.now options.now) }
 {
     for action in options {
-        if let Some(place) = find_cover(&columns[*action as usize], f) {
+        if let Some(place) = columns[*action as usize].find(f) {
             return Some(place);
         }
     }
@@ -92,7 +92,7 @@ pub fn answer_one(
     alloc: Global,
     g: &Game,
     vectors: &[Counters],
-    columns: &mut [Vec<Counters>],
+    columns: &mut [Column],
     f: &Counters,
     options: &[u64],
     known: Option<usize>,
@@ -118,7 +118,7 @@ pub fn answer_one(
 
 /// Looks for an entry for each of these options: the first option that has none.
 pub fn answer_each(
-    columns: &[Vec<Counters>],
+    columns: &[Column],
     f: &Counters,
     options: &[u64],
     answers: &mut [Option<usize>],
@@ -131,7 +131,7 @@ pub fn answer_each(
 {
     for i in 0..options.len() {
         let action = options[i];
-        match find_cover(&columns[action as usize], f) {
+        match columns[action as usize].find(f) {
             Some(place) => answers[i] = Some(place),
             None => return Some(action),
         }

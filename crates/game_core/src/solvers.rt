@@ -15,12 +15,15 @@ ghost use Rattle.game_core.specs.Known.{HaveAnswers};
 ghost use Rattle.game_core.specs.Plan.{IsPlan};
 ghost use Rattle.game_core.specs.Remains.{AreRemains};
 ghost use Rattle.game_core.specs.Solved.{Covers, IsLost, IsSettled, IsSolution};
+ghost use Rattle.game_core.specs.Start.{IsAttempt, IsStart};
 
+use crate::columns::Column;
 use crate::commits::put_left;
 use crate::exchanges::{Entries, exchange};
-use crate::fronts::{Note, is_under, next_entry, no_answers, no_columns, sum_of};
+use crate::fronts::{Note, is_under, next_entry, no_columns};
 use crate::looks::look;
 use crate::plans::plan;
+use crate::starts::{entries_of, everything};
 use antichain_list::{Downset, ListDownset};
 use counter_vec::Counters;
 use game_form::Game;
@@ -49,7 +52,7 @@ fn look_at_all(
     plan: &[Vec<u64>],
     vectors: &[Counters],
     notes: &mut [Note],
-    columns: &mut [Vec<Counters>],
+    columns: &mut [Column],
     slots: usize,
 ) -> Result<Option<Found>, AllocError>
     requires plan { IsPlan g.now plan.now }
@@ -84,7 +87,7 @@ fn settle(
     vectors: &[Counters],
     pending: &mut [bool],
     notes: &mut [Note],
-    columns: &mut [Vec<Counters>],
+    columns: &mut [Column],
     slots: usize,
 ) -> Result<Option<Found>, AllocError>
     requires plan { IsPlan g.now plan.now }
@@ -133,24 +136,6 @@ fn downset_of(alloc: Global, vectors: Vec<Counters>) -> Result<ListDownset<Count
     Ok(list)
 }
 
-/// The one entry that every vector is at or below.
-fn open_entries(alloc: Global, g: &Game, slots: usize) -> Result<Entries, AllocError>
-    ensures entries { IfOk result (λ e. AreEntries g.now slots e.vectors.items e.pending.items e.notes.items) }
-    ensures covers { IfOk result (λ e. Covers g.now e.vectors.items) }
-{
-    g.known();
-    let top = Counters::top(alloc, g)?;
-    let note = Note {
-        sum: sum_of(&top),
-        answers: no_answers(alloc, slots)?,
-    };
-    Ok(Entries {
-        vectors: vec![in alloc; top]?,
-        pending: vec![in alloc; true]?,
-        notes: vec![in alloc; note]?,
-    })
-}
-
 /// Whether no entry is at or above the initial vector, where only that is asked.
 fn is_lost(vectors: &[Counters], initial: &Counters, whole: bool) -> bool
     ensures asked { IsTrue result → whole ≡ false }
@@ -166,7 +151,7 @@ fn refine_all(
     g: &Game,
     plan: &[Vec<u64>],
     entries: &mut Entries,
-    columns: &mut [Vec<Counters>],
+    columns: &mut [Column],
     slots: usize,
     whole: bool,
 ) -> Result<bool, AllocError>
@@ -178,6 +163,7 @@ fn refine_all(
     requires covers { Covers g.now entries.old.vectors.items }
     ensures lost { IfOk result (λ b. b ≡ true → IsLost g.now whole) }
     ensures settled { IfOk result (λ b. b ≡ false → IsSettled g.now whole entries.new.vectors.items) }
+    ensures left { IfOk result (λ _. IsStart g.now entries.new.vectors.items) }
 {
     g.known();
     let initial = Counters::initial(alloc, g)?;
@@ -206,16 +192,42 @@ pub fn solve_alone(alloc: Global, g: Game, whole: bool) -> Result<Solved, AllocE
     solve(alloc, &g, whole)
 }
 
+/// How an attempt that began with some vectors ended.
+#[derive(Drop)]
+pub enum Attempt {
+    /// The maximal vectors that the player can hold.
+    Held(ListDownset<Counters>),
+    /// The initial vector isn't held. All that the player can hold is at or below these vectors.
+    Lost(Vec<Counters>),
+}
+
+/// The answer of `solve`, found from vectors at or above all that the player can hold.
+pub fn solve_from(
+    alloc: Global,
+    g: &Game,
+    start: Vec<Counters>,
+    whole: bool,
+) -> Result<Attempt, AllocError>
+    requires { IsStart g.now start.items }
+    ensures { IfOk result (IsAttempt g.now whole) }
+{
+    let plan = plan(alloc, g)?;
+    let slots = slots_of(&plan);
+    let mut entries = entries_of(alloc, g, start, slots)?;
+    let mut columns = no_columns(alloc, g.actions().len())?;
+    if refine_all(alloc, g, &plan, &mut entries, &mut columns, slots, whole)? {
+        return Ok(Attempt::Lost(entries.vectors));
+    }
+    Ok(Attempt::Held(downset_of(alloc, entries.vectors)?))
+}
+
 /// The maximal held vectors; where `whole` is false and the initial vector isn't held, Lost instead.
 pub fn solve(alloc: Global, g: &Game, whole: bool) -> Result<Solved, AllocError>
     ensures { IfOk result (IsSolution g.now whole) }
 {
-    let plan = plan(alloc, g)?;
-    let slots = slots_of(&plan);
-    let mut entries = open_entries(alloc, g, slots)?;
-    let mut columns = no_columns(alloc, g.actions().len())?;
-    if refine_all(alloc, g, &plan, &mut entries, &mut columns, slots, whole)? {
-        return Ok(Solved::Lost);
+    let start = everything(alloc, g)?;
+    match solve_from(alloc, g, start, whole)? {
+        Attempt::Held(list) => Ok(Solved::Held(list)),
+        Attempt::Lost(_) => Ok(Solved::Lost),
     }
-    Ok(Solved::Held(downset_of(alloc, entries.vectors)?))
 }

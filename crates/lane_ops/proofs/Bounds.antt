@@ -1,5 +1,6 @@
 -- The two steps along a row, one lane at a time.
-use Rattle.std.proofs.Common.{ℕ, ◌≡◌, ◌<◌, ◌≤◌, ◌+◌, arith, List, length, below_more, get_or-set_same, get_or-set_other, ap, ◌∙◌, ◌≢◌}
+use Rattle.std.proofs.Common.{ℕ, ◌≡◌, ◌<◌, ◌≤◌, ◌+◌, Bool, true, false, ◌&&◌, ◌⊎◌, inl, inr, refl, subst, arith, List, length, below_more, get_or-set_same, get_or-set_other, ap, ◌∙◌, ◌≢◌}
+use Rattle.std.proofs.lemmas.Bool.{cases_lt}
 use Rattle.std.specs.Prelude.{slice_set}
 use Rattle.std.specs.Prelude.{ℤ, pos, negsuc, ◌+ℤ◌, ◌-ℤ◌, ◌≤ℤ◌}
 use Rattle.std.specs.Int.{int_max, int_min}
@@ -39,3 +40,27 @@ least_more row s k least x m r o i e er eo e2 low below most =
       below_more _ _ (λ q lt. let b = below q lt in omega (arith, ints, clamps)) (omega (arith, ints, clamps)),
       λ y le each. let a = most y le (λ q lt. each q (omega arith)) in let b = each i (omega arith) in omega (arith, ints, clamps),
     )
+
+-- one lane more of which something holds exactly where a test passes
+pub all_more : (P : ℕ → Type 0) (from p : ℕ) (all one : Bool) → from ≤ p
+    → (all ≡ true → (q : ℕ) → from ≤ q → q < p → P q) → (((q : ℕ) → from ≤ q → q < p → P q) → all ≡ true) → (one ≡ true → P p) → (P p → one ≡ true)
+    → ((all && one) ≡ true → (q : ℕ) → from ≤ q → q < p + 1 → P q) × (((q : ℕ) → from ≤ q → q < p + 1 → P q) → (all && one) ≡ true)
+all_more P from p all one le each back here there = (
+  λ h q low lt. go q low (cases_lt q p) lt (each (left all one h)) (here (right all one h)),
+  λ h. both (back (λ q low lt. h q low (omega arith))) (there (h p le (omega arith))),
+)
+  where
+    left : (a b : Bool) → (a && b) ≡ true → a ≡ true
+    left true b h = refl
+    left false b h = cc
+
+    right : (a b : Bool) → (a && b) ≡ true → b ≡ true
+    right true b h = h
+    right false b h = cc
+
+    both : all ≡ true → one ≡ true → (all && one) ≡ true
+    both h k = rw (h, k) refl
+
+    go : (q : ℕ) → from ≤ q → (q < p) ⊎ (p ≤ q) → q < p + 1 → ((r : ℕ) → from ≤ r → r < p → P r) → P p → P q
+    go q low (inl less) lt before last = before q low less
+    go q low (inr more) lt before last = subst P (omega arith) last

@@ -1,6 +1,7 @@
 //! Comparisons of vectors.
 
 ghost use Rattle.std.specs.Prelude.{◌≡◌, ◌≢◌, ◌<◌, ◌≤◌, ◌+◌, ◌↔◌, ◌≤ℤ◌, ◌<ℤ◌, ℕ, length, IsTrue, min};
+ghost use Rattle.std.specs.Int.{int_min};
 ghost use Rattle.lane_ops.specs.Lanes.{lane, IsAtOrBelow};
 
 /// How many lanes are compared at once.
@@ -31,6 +32,41 @@ fn le_between(a: &[i16], b: &[i16], from: usize, to: usize) -> bool
         all &= a[p] <= b[p];
     }
     all
+}
+
+/// Whether the smaller number of each lane of `a` and `b` is at most that of `c`.
+pub fn meet_le(a: &[i16], b: &[i16], c: &[i16]) -> bool
+    requires second { length a.now ≡ length b.now }
+    requires third { length a.now ≡ length c.now }
+    ensures { IsTrue result ↔ ((p : ℕ) → p < length a.now → int_min (lane a.now p) (lane b.now p) ≤ℤ lane c.now p) }
+{
+    let blocks = a.len() / BLOCK;
+    for block in 0..blocks {
+        if !meet_le_between(a, b, c, block * BLOCK, block * BLOCK + BLOCK) {
+            return false;
+        }
+    }
+    meet_le_between(a, b, c, blocks * BLOCK, a.len())
+}
+
+fn meet_le_between(a: &[i16], b: &[i16], c: &[i16], from: usize, to: usize) -> bool
+    requires second { length a.now ≡ length b.now }
+    requires third { length a.now ≡ length c.now }
+    requires ordered { from ≤ to }
+    requires within { to ≤ length a.now }
+    ensures { IsTrue result ↔ ((p : ℕ) → from ≤ p → p < to → int_min (lane a.now p) (lane b.now p) ≤ℤ lane c.now p) }
+{
+    let mut all = true;
+    for p in from..to {
+        all &= smaller_at_most(a[p], b[p], c[p]);
+    }
+    all
+}
+
+fn smaller_at_most(a: i16, b: i16, c: i16) -> bool
+    ensures { IsTrue result ↔ int_min a b ≤ℤ c }
+{
+    a.min(b) <= c
 }
 
 /// Whether some lane is above `k`.

@@ -6,8 +6,8 @@
 mod compares;
 mod steps;
 
-pub use compares::{first_differs, le, over};
-pub use steps::{lower_row, meet_into, raise_row};
+pub use compares::{first_differs, le, meet_le, over};
+pub use steps::{lift_into, lower_row, meet_into, raise_row};
 
 #[cfg(test)]
 mod tests {
@@ -54,6 +54,10 @@ mod tests {
         let mut out = [0i16; 2];
         meet_into(&[0, 3], &[1, 2], &mut out);
         assert_eq!(rt; out, [0, 2]);
+        assert!(rt; meet_le(&[0, 3], &[1, 2], &[0, 2]));
+        assert!(rt; !meet_le(&[0, 3], &[1, 2], &[1, 1]));
+        lift_into(&[-1, 3], 2, &mut out);
+        assert_eq!(rt; out, [1, 5]);
         Ok(())
     }
 }

@@ -15,6 +15,18 @@ pub fn meet_into(a: &[i16], b: &[i16], out: &mut [i16])
     }
 }
 
+/// Writes each lane of `v`, more by `by`, into `out`.
+pub fn lift_into(v: &[i16], by: i16, out: &mut [i16])
+    requires same { length v.now ≡ length out.old }
+    requires by { (pos 0 ≤ℤ by) × (by ≤ℤ pos 10000) }
+    requires values { LanesWithin v.now (pos 10000) }
+    ensures { (p : ℕ) → p < length out.new → lane out.new p ≡ lane v.now p +ℤ by }
+{
+    for p in 0..out.len() {
+        out[p] = v[p] + by;
+    }
+}
+
 /// Raises each lane to which `row` leads to what a lane with `value` brings it, cut at `k + 1`.
 pub fn raise_row(out: &mut [i16], row: &[i16], value: i16, k: i16)
     requires same { length row.now ≡ length out.old }

@@ -3,4 +3,4 @@ use Rattle.game_core.proofs.ColumnReads.{column_removed}
 use Rattle.game_core.proofs.exchanges.drop_from.Goals as goal
 
 pub returns-then-gone-len : goal.returns-then-gone-len
-returns-then-gone-len c = λ g action vectors lt h. rw c.remove.ensures.items (column_removed g action vectors c.args.column.now.items c.args.gone h (omega arith))
+returns-then-gone-len c = λ g action vectors lt h. rw c.take.ensures (column_removed g action vectors c.args.column.now.items c.args.gone h (omega arith))

@@ -1,7 +1,6 @@
-use Rattle.std.proofs.Common.{◌≡◌, ◌∙◌, ◌||◌, List, Vec, ap, sym, subst, vec_len}
+use Rattle.std.proofs.Common.{◌≡◌, ◌∙◌, ◌||◌, List, ap, sym, subst, vec_len}
 use Rattle.std.specs.Prelude.{ℤ}
-use Rattle.std.specs.declared.alloc.Global.{Global}
-use Rattle.game_core.specs.Columns.{AreColumns}
+use Rattle.game_core.specs.Columns.{AreColumns, ColumnData}
 use Rattle.std.proofs.lemmas.Result.{on_ok_weaker}
 use Rattle.game_core.specs.Front.{under}
 use Rattle.game_core.proofs.Greatest.{exchange_keeps, rest_above}
@@ -39,7 +38,7 @@ put_pieces-requires-clause-entries c =
 pub returns-clause-columns : goal.returns-clause-columns
 returns-clause-columns c =
     let g = c.args.g.now in
-    let columns : List (Vec (List ℤ) Global) = c.drop_place.new.columns in
+    let columns : List ColumnData = c.drop_place.new.columns in
     on_ok_weaker c.put_pieces.result
     (λ keep. keep columns
     (subst (λ (vs : List (List ℤ)). AreColumns g vs columns) (sym c.take_entry-f.ensures.vectors)

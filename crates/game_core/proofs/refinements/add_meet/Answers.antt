@@ -6,6 +6,8 @@ use Rattle.cpre_step.proofs.Left.{below-met}
 use Rattle.game_core.specs.Front.{under}
 use Rattle.game_core.proofs.Orders.{met_left, met_right}
 use Rattle.game_core.proofs.Pieces.{meet_piece}
+use Rattle.game_core.proofs.Unders.{under_absorbs}
+use Rattle.counter_vec.specs.Counters.{met}
 use Rattle.game_core.proofs.refinements.add_meet.Goals as goal
 
 pub add_maximal-requires-clause-piece : goal.add_maximal-requires-clause-piece
@@ -24,3 +26,9 @@ returns-clause-under c =
     ∙ ap (λ (m : List ℤ). under c.args.kept.now.items u || at_or_below u m) c.in_ok-meet.ensures
     ∙ ap (λ b. under c.args.kept.now.items u || b) (below-met u c.args.v.now c.args.p.now c.requires.same))
     c.add_maximal.ensures.under
+
+pub returns-in-Some-clause-under : goal.returns-in-Some-clause-under
+returns-in-Some-clause-under c =
+    let kept : List (List ℤ) = c.args.kept.now.items in
+    let hit : under kept (met c.args.v.now c.args.p.now) ≡ true = ap (λ (vs : List (List ℤ)). under vs (met c.args.v.now c.args.p.now)) (sym c.deref.ensures.value) ∙ c.in-Some.ensures in
+    λ u. under_absorbs u (met c.args.v.now c.args.p.now) kept hit ∙ ap (λ b. under kept u || b) (below-met u c.args.v.now c.args.p.now c.requires.same)

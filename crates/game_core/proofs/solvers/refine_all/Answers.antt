@@ -37,3 +37,17 @@ returns-clause-settled c = λ h.
     settled_seen g c.args.whole c.refining.entries.vectors.items c.deref-2.result.now c.in_ok-initial.initial c.known.ensures c.refining.invariant.0.apart c.refining.invariant.0.vectors
     (subst (λ (vs : List (List ℤ)). All (λ f. answers g vs f ≡ true) vs) c.deref.ensures.value (rw c.in_default.is at c.in_ok-found.ensures.closed))
     c.refining.invariant.2 c.deref-2.ensures.value c.in_ok-initial.ensures (c.is_lost-2.ensures.covered h)
+
+pub returns-then-is_lost-clause-left : goal.returns-then-is_lost-clause-left
+returns-then-is_lost-clause-left c = record {
+  vectors = c.in_ok-exchange.ensures.entries.vectors;
+  apart = c.in_ok-exchange.ensures.entries.apart;
+  covers = covers_kept c.args.g.now c.known.ensures c.refining.entries.vectors.items c.exchange.new.entries.vectors.items c.refining.invariant.2 c.in_ok-exchange.ensures.keeps;
+}
+
+pub returns-clause-left : goal.returns-clause-left
+returns-clause-left c = record {
+  vectors = c.refining.invariant.0.vectors;
+  apart = c.refining.invariant.0.apart;
+  covers = c.refining.invariant.2;
+}

@@ -1,8 +1,7 @@
-use Rattle.std.proofs.Common.{◌∙◌, ap, sym, arith, length, ◌≡◌, ◌<◌, ℕ, List}
+use Rattle.std.proofs.Common.{◌∙◌, ap, sym, arith, length, ◌≡◌, List}
 use Rattle.std.specs.Prelude.{ℤ}
 use Rattle.std.specs.Int.{int_min}
 use Rattle.game_form.specs.Vector.{lane}
-use Rattle.counter_vec.specs.Counters.{met}
 use Rattle.counter_vec.proofs.Vectors.{met_of, whole}
 use Rattle.counter_vec.proofs.counters.Counters.meet.Goals as goal
 
