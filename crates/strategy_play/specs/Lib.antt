@@ -1,7 +1,9 @@
 pub mod Answer
+pub mod Exact
 pub mod Example
 pub mod Lead
 pub mod Line
+pub mod Ordered
 pub mod Restriction
 pub mod State
 pub mod Strategy
