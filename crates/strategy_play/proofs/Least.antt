@@ -2,7 +2,7 @@
 use Rattle.std.proofs.Common.{◌≡◌, ℕ, ◌+◌, ◌<◌, ◌≤◌, ◌^◌, Bool, true, false, List, [], ◌∷◌, suc, length, get_or, nat_lt, Option, Some, None, refl, sym, ◌∙◌, ap, subst, arith}
 use borrow.Author.Tests.{ltb-true, ltb-false}
 use Rattle.std.specs.Prelude.{ℤ}
-use Rattle.std.specs.List.{list_all}
+use Rattle.std.specs.List.{All, list_all}
 use Rattle.std.specs.Option.{is_some, IsSome, IsSomeAnd}
 use Rattle.word_core.specs.declared.names.Kind.{Kind}
 use Rattle.word_core.specs.declared.names.Kind.TheVariants.{First, Second}
@@ -16,6 +16,7 @@ use Rattle.strategy_play.specs.Answer.{answer_of, IsAnswer}
 use Rattle.strategy_play.specs.Exact.{led_to, stays_by, IsLeast, IsMachineOfList}
 use Rattle.strategy_play.specs.Lead.{next_at, all_lead}
 use Rattle.strategy_play.specs.Ordered.{order_of, IsInOrder}
+use Rattle.strategy_play.specs.Splitting.{AreSplit}
 use Rattle.strategy_play.specs.Strategy.{entry_of_state, IsStrategy}
 use Rattle.strategy_play.proofs.Answered.{some_and}
 use Rattle.strategy_play.proofs.Kept.{answer_leads}
@@ -57,7 +58,7 @@ module _ (g : GameData) (known : IsGame g) (entries : List (List ℤ)) (f : List
       none : (x : ℕ) → x < own → IsSome (led_to g entries f x other) → ⊥
       none x l some =
           let p = pick_from next (class_at g (class_of g other)).options (own, entry) answer in
-          let o = order.option x other (omega (arith, l, in_own)) in_other in
+          let o = order.0 x other (omega (arith, l, in_own)) in_other in
           by p.place p.own p.before o.0 o.1 o.2 o.3 (nat_lt o.0 p.place) refl
         where
           by : (place : ℕ) → (get_or (class_at g (class_of g other)).options place (0, 0)).1 ≡ own
@@ -66,7 +67,7 @@ module _ (g : GameData) (known : IsGame g) (entries : List (List ℤ)) (f : List
               → (b : Bool) → nat_lt j place ≡ b → ⊥
           by place is before j lj act low true e = none_some (next (action_of g x other)) (ap next (sym act) ∙ before j (ltb-true j place e)) some
           by place is before j lj act low false e =
-              let more = order.ascend (class_of g other) place j class (ltb-false j place e) lj in
+              let more = order.1 (class_of g other) place j class (ltb-false j place e) lj in
               omega (arith, more, low, is, l)
 
   first_least : g.kind ≡ First → letters_of First g → covering_of First g → order_of First g → answer_of First g next other own entry → IsLeast g entries f other own entry
@@ -105,7 +106,7 @@ module _ (g : GameData) (known : IsGame g) (entries : List (List ℤ)) (f : List
       none x l s =
           let lx : x < 2 ^ own_width g = omega (arith, l, in_own) in
           let c : class_of g x < length g.classes = label_of-all (λ l. l < length g.classes) g.firsts known.firsts.tree known.firsts.labels x in
-          let low = order.least x lx in
+          let low = order.0 x lx in
           by (nat_lt (class_of g x) answer.place) refl c low (all_of x lx s)
         where
           differ : false ≡ true → ⊥
@@ -114,7 +115,7 @@ module _ (g : GameData) (known : IsGame g) (entries : List (List ℤ)) (f : List
           by : (b : Bool) → nat_lt (class_of g x) answer.place ≡ b → class_of g x < length g.classes → (class_at g (class_of g x)).least ≤ x → all_lead next (class_at g (class_of g x)).options ≡ true → ⊥
           by true e c low all = differ (sym (passes_none (λ c. all_lead next c.options) 0 g.classes answer.place (class_of g x) no_class answer.leads (omega (arith, ltb-true (class_of g x) answer.place e))) ∙ all)
           by false e c low all =
-              let more = order.ascend answer.place (class_of g x) (ltb-false (class_of g x) answer.place e) c in
+              let more = order.1 answer.place (class_of g x) (ltb-false (class_of g x) answer.place e) c in
               omega (arith, more, low, answer.own_is, l)
 
   least_by : (k : Kind) → g.kind ≡ k → letters_of k g → covering_of k g → order_of k g → answer_of k g next other own entry → IsLeast g entries f other own entry
@@ -124,8 +125,8 @@ module _ (g : GameData) (known : IsGame g) (entries : List (List ℤ)) (f : List
   pub answer_least : HasLetters g → CoversLetters g → IsInOrder g → IsAnswer g next other own entry → IsLeast g entries f other own entry
   answer_least letters covers order answer = least_by g.kind refl letters covers order answer
 
-pub least_machine : (g : GameData) → IsGame g → (entries : List (List ℤ)) (states : List (List Line)) → HasLetters g → CoversLetters g → IsInOrder g → IsStrategy g entries states → IsMachineOfList g entries states
-least_machine g known entries states letters covers order is = record {
+pub least_machine : (g : GameData) → IsGame g → (entries : List (List ℤ)) (states : List (List Line)) → HasLetters g → CoversLetters g → IsInOrder g → All (AreSplit (other_width g)) states → IsStrategy g entries states → IsMachineOfList g entries states
+least_machine g known entries states letters covers order split is = record {
   order = is.order;
   count = is.count;
   within = is.within;
@@ -137,5 +138,6 @@ least_machine g known entries states letters covers order is = record {
       (λ line. IsLeast g entries (entry_of_state entries is.order s) other line.own (get_or is.order line.next 0))
       (λ line answer. answer_least g known entries (entry_of_state entries is.order s) other line.own (get_or is.order line.next 0) lx letters covers order answer)
       (is.answers s l other lx);
+  lines = split;
   breadth_first = is.breadth_first;
 }

@@ -9,6 +9,7 @@ use Rattle.word_core.specs.Machine.{choice}
 use Rattle.game_form.specs.Game.{GameData, action_of, own_width, other_width}
 use Rattle.game_form.specs.Vector.{initial, successor}
 use Rattle.strategy_play.specs.Lead.{place_above}
+use Rattle.strategy_play.specs.Splitting.{AreSplit}
 use Rattle.strategy_play.specs.Strategy.{entry_of_state}
 use Rattle.strategy_play.specs.Walk.{InTurn, nexts_of}
 
@@ -32,8 +33,8 @@ pub record IsLeast (g : GameData) (entries : List (List ℤ)) (f : List ℤ) (ot
   pub leads : led_to g entries f own other ≡ Some entry
 
 -- each state is an entry, no two are the same one, the first is the first entry at or above the initial vector; at each
--- valuation of the other a state has the least own valuation that stays, and goes on to the entry to which it leads; states are
--- numbered breadth first: line by line of state by state each next is a number before, or the next number
+-- valuation of the other a state has the least own valuation that stays, and goes on to the entry to which it leads; its lines
+-- split the valuations signal by signal; states are numbered breadth first: line by line of state by state each next is a number before, or the next number
 pub record IsMachineOfList (g : GameData) (entries : List (List ℤ)) (states : List (List Line)) : Type 0 where
   pub order : List ℕ
   pub count : length order ≡ length states
@@ -42,4 +43,5 @@ pub record IsMachineOfList (g : GameData) (entries : List (List ℤ)) (states : 
   pub first : place_above entries (initial g) ≡ Some (slice_index order 0)
   pub choices : (s other : ℕ) → s < length states → other < 2 ^ other_width g
       → IsSomeAnd (choice (slice_index_or states s []) other) (λ l. IsLeast g entries (entry_of_state entries order s) other l.own (slice_index order l.next))
+  pub lines : All (AreSplit (other_width g)) states
   pub breadth_first : InTurn 1 (flat_map nexts_of states) (length states)

@@ -5,6 +5,7 @@ pub mod Lead
 pub mod Line
 pub mod Ordered
 pub mod Restriction
+pub mod Splitting
 pub mod State
 pub mod Strategy
 pub mod Walk
