@@ -41,7 +41,7 @@ number_of_mark true = refl
 number_of_mark false = refl
 
 -- an edge of the list that holds the letter counts
-edge_counts : (es : List Edge) (e : Edge) (x k : ℕ) → k < length es → get_or es k e ≡ e → holds e.cube x ≡ true → mark_number e.marked ≤ edge_number es x e.next
+pub edge_counts : (es : List Edge) (e : Edge) (x k : ℕ) → k < length es → get_or es k e ≡ e → holds e.cube x ≡ true → mark_number e.marked ≤ edge_number es x e.next
 edge_counts [] e x k lt is h = absurd (omega arith)
 edge_counts (f ∷ es) e x zero lt is h =
     at_least_max (mark_number e.marked) _ _ (subst (λ (d : Edge). mark_number e.marked ≤ (if holds d.cube x && nat_eq d.next e.next then mark_number d.marked else 0)) (sym is) (here (holds e.cube x) h))
@@ -61,7 +61,7 @@ at_least x y z h = grind (arith, ints)
 at_last : (x y z : ℤ) → x ≤ℤ z → x ≤ℤ int_max y z
 at_last x y z h = grind (arith, ints)
 
-arrives : (k : ℕ) (rows : List (List Step)) (v : List ℤ) (q p : ℕ) (x : ℤ) → q < length rows → q < length v → x ≤ℤ brought k (lane v q) (number (row_at rows q) p) → x ≤ℤ arrived k rows v p
+pub arrives : (k : ℕ) (rows : List (List Step)) (v : List ℤ) (q p : ℕ) (x : ℤ) → q < length rows → q < length v → x ≤ℤ brought k (lane v q) (number (row_at rows q) p) → x ≤ℤ arrived k rows v p
 arrives k [] v q p x lr lv h = absurd (omega arith)
 arrives k (r ∷ rows) [] q p x lr lv h = absurd (omega arith)
 arrives k (r ∷ rows) (y ∷ v) zero p x lr lv h = at_least _ _ _ h

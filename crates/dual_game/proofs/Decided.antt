@@ -47,7 +47,7 @@ initial_vector g k = record {
     at : (q : ℕ) → q < lanes g → lane (initial g) q ≡ begins g.init q
     at q l = get_or-map-range_with_len (begins g.init) 0 (lanes g) q q (pos 0) l (omega arith)
 
-game_with : (g : GameData) (k : ℕ) → IsGame g → k ≤ 10000 → IsGame (with_bound k g)
+pub game_with : (g : GameData) (k : ℕ) → IsGame g → k ≤ 10000 → IsGame (with_bound k g)
 game_with g k is le = record {
   widths = is.widths;
   low = grind (arith, ints);

@@ -1,8 +1,14 @@
+mod Alike
 mod Avoiding
 mod Counted
 mod Decided
+mod Lifting
 mod Meeting
+mod OneList
 pub mod OneWinner
 mod Reached
+mod SameMachine
+mod Shadow
+mod Shared
 pub mod Tried
 mod Weaker

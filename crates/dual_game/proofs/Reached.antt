@@ -28,14 +28,14 @@ use Rattle.dual_game.specs.Counting.{Counts, CountingIsExact}
 use Rattle.dual_game.proofs.Counted.{mark, number_of_mark, decided, lane_successor, length_successor}
 
 -- the greatest number is that of an edge
-record IsTaken (es : List Edge) (x p r : ℕ) : Type 0 where
-  edge : Edge
-  contained : Contains es edge
-  held : holds edge.cube x ≡ true
-  next : edge.next ≡ p
-  marks : mark edge ≡ r
+pub record IsTaken (es : List Edge) (x p r : ℕ) : Type 0 where
+  pub edge : Edge
+  pub contained : Contains es edge
+  pub held : holds edge.cube x ≡ true
+  pub next : edge.next ≡ p
+  pub marks : mark edge ≡ r
 
-edge_taken : (es : List Edge) (x p r : ℕ) → edge_number es x p ≡ suc r → IsTaken es x p r
+pub edge_taken : (es : List Edge) (x p r : ℕ) → edge_number es x p ≡ suc r → IsTaken es x p r
 edge_taken [] x p r h = absurd (omega arith)
 edge_taken (e ∷ es) x p r h = go (holds e.cube x && nat_eq e.next p) refl (edge_taken es x p r) (larger (if holds e.cube x && nat_eq e.next p then mark_number e.marked else 0) (edge_number es x p) h)
   where
@@ -63,7 +63,7 @@ edge_taken (e ∷ es) x p r h = go (holds e.cube x && nat_eq e.next p) refl (edg
     go false is rest (inr m) = behind (rest m)
 
 -- what arrives is what some lane brings
-arrived_from : (k : ℕ) (rows : List (List Step)) (v : List ℤ) (p n : ℕ) → arrived k rows v p ≡ pos n
+pub arrived_from : (k : ℕ) (rows : List (List Step)) (v : List ℤ) (p n : ℕ) → arrived k rows v p ≡ pos n
     → (q : ℕ) × (q < length rows) × (q < length v) × (brought k (lane v q) (number (row_at rows q) p) ≡ pos n)
 arrived_from k [] v p n h = absurd (cc)
 arrived_from k (r ∷ rows) [] p n h = absurd (cc)
@@ -78,14 +78,14 @@ arrived_from k (r ∷ rows) (y ∷ v) p n h = go (arrived_from k rows v p n) (la
     go rest (inl b) = (zero, omega arith, omega arith, b)
     go rest (inr c) = let f = rest c in (suc f.0, omega (arith, f.1), omega (arith, f.2), f.3)
 
-record IsBrought (x : ℤ) (number n : ℕ) : Type 0 where
-  count : ℕ
-  more : ℕ
-  lane_is : x ≡ pos count
-  number_is : number ≡ suc more
-  most : n ≤ count + more
+pub record IsBrought (x : ℤ) (number n : ℕ) : Type 0 where
+  pub count : ℕ
+  pub more : ℕ
+  pub lane_is : x ≡ pos count
+  pub number_is : number ≡ suc more
+  pub most : n ≤ count + more
 
-brought_from : (k : ℕ) (x : ℤ) (r n : ℕ) → brought k x r ≡ pos n → IsBrought x r n
+pub brought_from : (k : ℕ) (x : ℤ) (r n : ℕ) → brought k x r ≡ pos n → IsBrought x r n
 brought_from k (negsuc c) r n h = absurd (cc)
 brought_from k (pos c) zero n h = absurd (cc)
 brought_from k (pos c) (suc r) n h = record { count = c; more = r; lane_is = refl; number_is = refl; most = small (min (k + 1) (c + r)) n (c + r) h (below (k + 1) (c + r)) }

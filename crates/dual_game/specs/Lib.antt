@@ -3,4 +3,5 @@ pub mod Bounds
 pub mod Counting
 pub mod Errors
 pub mod Games
+pub mod Machines
 pub mod Winning

@@ -1,6 +1,7 @@
 //! Laws that tie games to the automata that they count on.
 
 ghost use Rattle.dual_game.specs.Counting.{CountingIsSound, CountingIsExact};
+ghost use Rattle.dual_game.specs.Machines.{HeldListIsOne};
 ghost use Rattle.dual_game.specs.Winning.{KeptIsRefused, OnlyOneWins};
 
 /// Counting is sound: a machine that keeps every lane of a game at most at the bound, along all its plays, keeps the
@@ -23,4 +24,10 @@ pub fn kept_is_refused()
 /// Only one player wins: two machines of opposite players play one lasso together, and one of their automata accepts it.
 pub fn only_one_wins()
     ensures { OnlyOneWins }
+{}
+
+/// The maximal held vectors of a game have one ascending list. So what is said of such a list is said of the one that
+/// the solver finds.
+pub fn held_list_is_one()
+    ensures { HeldListIsOne }
 {}

@@ -1,4 +1,5 @@
 mod Covered
+mod Folded
 mod Numbers
 mod OneClass
 mod Simulated

@@ -17,12 +17,12 @@ use Rattle.nba_quotient.specs.Simulation.{Outruns}
 use Rattle.nba_quotient.specs.Ways.{class_at, to_class}
 
 -- an edge that does what another one does, and leads on
-record Answers (b : AutomatonData) (R : ℕ → ℕ → Type 0) (t : ℕ) (e : Edge) : Type 0 where
-  edge : Edge
-  there : Contains (edges_at b t) edge
-  marked : e.marked ≡ true → edge.marked ≡ true
-  cube : (x : ℕ) → holds e.cube x ≡ true → holds edge.cube x ≡ true
-  leads : R e.next edge.next
+pub record Answers (b : AutomatonData) (R : ℕ → ℕ → Type 0) (t : ℕ) (e : Edge) : Type 0 where
+  pub edge : Edge
+  pub there : Contains (edges_at b t) edge
+  pub marked : e.marked ≡ true → edge.marked ≡ true
+  pub cube : (x : ℕ) → holds e.cube x ≡ true → holds edge.cube x ≡ true
+  pub leads : R e.next edge.next
 
 abbrev mark : Bool → ℕ
 mark marked = if marked then 1 else 0
@@ -76,14 +76,14 @@ pub record IsQuotient (a : AutomatonData) (c : Classes) (q : AutomatonData) : Ty
   pub init : q.init ≡ option_map (class_at c.of.items) a.init
 
 module _ (a : AutomatonData) (c : Classes) (q : AutomatonData) (good : IsAutomaton a) (classes : AreClasses (length a.states) c) (stable : AreStable a c) (is : IsQuotient a c q) where
-  abbrev of : List ℕ
+  abbrev pub of : List ℕ
   of = c.of.items
 
   -- a state of the quotient has the edges of a state of its class
   edges_are : (t : ℕ) → t < length c.leasts.items → edges_at q t ≡ map (to_class of) (edges_at a (class_at c.leasts.items t))
   edges_are t l = ap (λ (states : List (List Edge)). get_or states t []) is.states ∙ get_or-map (λ s. map (to_class of) (edges_at a s)) c.leasts.items t 0 [] l
 
-  class_within : (s : ℕ) → s < length a.states → class_at of s < length c.leasts.items
+  pub class_within : (s : ℕ) → s < length a.states → class_at of s < length c.leasts.items
   class_within s l = All-get_or (λ n. n < length c.leasts.items) of s 0 (omega (arith, classes.each)) classes.classes
 
   least_within : (t : ℕ) → t < length c.leasts.items → class_at c.leasts.items t < length a.states
@@ -94,13 +94,13 @@ module _ (a : AutomatonData) (c : Classes) (q : AutomatonData) (good : IsAutomat
       let all : All (IsEdge a.signals (length a.states)) (edges_at a s) = All-get_or (All (IsEdge a.signals (length a.states))) a.states s [] l good.ranged in
       (All-contains (IsEdge a.signals (length a.states)) (edges_at a s) e all h).1
 
-  abbrev Has : ℕ → ℕ → Type 0
+  abbrev pub Has : ℕ → ℕ → Type 0
   Has s t = (class_at of s ≡ t) × (s < length a.states)
 
-  abbrev Is : ℕ → ℕ → Type 0
+  abbrev pub Is : ℕ → ℕ → Type 0
   Is t s = Has s t
 
-  up : (s t : ℕ) (e : Edge) → Has s t → Contains (edges_at a s) e → Answers q Has t e
+  pub up : (s t : ℕ) (e : Edge) → Has s t → Contains (edges_at a s) e → Answers q Has t e
   up s t e h there =
       let within : t < length c.leasts.items = subst (λ n. n < length c.leasts.items) h.0 (class_within s h.1) in
       let least : ℕ = class_at c.leasts.items t in
@@ -114,7 +114,7 @@ module _ (a : AutomatonData) (c : Classes) (q : AutomatonData) (good : IsAutomat
         leads = (sym f.2.class, next_within s e h.1 there);
       }
 
-  down : (t s : ℕ) (e : Edge) → Is t s → Contains (edges_at q t) e → Answers a Is s e
+  pub down : (t s : ℕ) (e : Edge) → Is t s → Contains (edges_at q t) e → Answers a Is s e
   down t s e h there =
       let within : t < length c.leasts.items = subst (λ n. n < length c.leasts.items) h.0 (class_within s h.1) in
       let least : ℕ = class_at c.leasts.items t in

@@ -64,7 +64,7 @@ pub record IsSplit (a : AutomatonData) (old : List ℕ) (kinds : List Kind) (of 
 known_push : (xs : List ℕ) (x : ℕ) → known (xs ++ x ∷ []) ≡ max (known xs) (x + 1)
 known_push xs x = fold_push (λ n c. max n (c + 1)) 0 xs x
 
-known_more : (xs : List ℕ) (s : ℕ) → s < length xs → known (take (s + 1) xs) ≡ max (known (take s xs)) (class_at xs s + 1)
+pub known_more : (xs : List ℕ) (s : ℕ) → s < length xs → known (take (s + 1) xs) ≡ max (known (take s xs)) (class_at xs s + 1)
 known_more xs s l = ap known (take_more xs s 0 l) ∙ known_push (take s xs) (class_at xs s)
 
 pub split_begins : (a : AutomatonData) (old : List ℕ) → IsSplit a old [] []

@@ -1,4 +1,5 @@
 pub mod Classes
+pub mod Folding
 pub mod Kinds
 pub mod Simulation
 pub mod Ways

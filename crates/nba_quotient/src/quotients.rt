@@ -1,10 +1,11 @@
 //! The automaton of the classes.
 
-ghost use Rattle.std.specs.Prelude.{◌≡◌, ℕ, ◌<◌, ◌≤◌, length, All, IfOk, IfSome, map, option_map};
+ghost use Rattle.std.specs.Prelude.{◌≡◌, ℕ, ◌<◌, ◌≤◌, List, length, All, IfOk, IfSome, map, option_map};
 ghost use Rattle.word_core.specs.Automaton.{IsEdge, edges_at};
 ghost use Rattle.word_core.specs.Machine.{MachineData};
 ghost use Rattle.word_core.specs.Run.{Keeps};
 ghost use Rattle.nba_quotient.specs.Classes.{AreClasses};
+ghost use Rattle.nba_quotient.specs.Folding.{IsFolding};
 ghost use Rattle.nba_quotient.specs.Simulation.{Outruns};
 ghost use Rattle.nba_quotient.specs.Ways.{class_at, to_class};
 
@@ -19,6 +20,7 @@ use word_core::{Automaton, Edge, State};
 /// for lanes the game has the same machine, in the same order of entries.
 pub fn quotient(alloc: Global, a: &Automaton) -> Result<Automaton, AllocError>
     ensures signals { IfOk result (λ q. q.signals ≡ a.now.signals) }
+    ensures folding { IfOk result (λ q. (of : List ℕ) × IsFolding a.now of q) }
     ensures no_less { IfOk result (λ q. Outruns q a.now) }
     ensures no_more { IfOk result (λ q. Outruns a.now q) }
     ensures kept { IfOk result (λ q. (m : MachineData) (k : ℕ) → Keeps a.now m k → Keeps q m k) }

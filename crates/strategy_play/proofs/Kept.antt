@@ -31,7 +31,7 @@ use Rattle.strategy_play.proofs.Leading.{pick_from, leader_within, position_with
 use Rattle.strategy_play.proofs.Played.{decides_within}
 
 -- an answer is where the action of the letter leads
-answer_leads : (kind : Kind) (g : GameData) (next : ℕ → Option ℕ) (other own entry : ℕ) → other < 2 ^ other_width g → letters_of kind g → answer_of kind g next other own entry → next (action_of g own other) ≡ Some entry
+pub answer_leads : (kind : Kind) (g : GameData) (next : ℕ → Option ℕ) (other own entry : ℕ) → other < 2 ^ other_width g → letters_of kind g → answer_of kind g next other own entry → next (action_of g own other) ≡ Some entry
 answer_leads First g next other own entry in_other letters h =
     let r = letters h.place other (leader_within next g.classes h.place h.leads) in_other in
     h.entry_is r.0 r.1 (r.2 ∙ ap (λ o. action_of g o other) (sym h.own_is))

@@ -62,7 +62,7 @@ pub and_right : (a b : Bool) → (a && b) ≡ true → b ≡ true
 and_right true b h = h
 and_right false b h = absurd (cc)
 
-all_passes : {X : Type 0} (p : X → Bool) (xs : List X) (i : ℕ) (d : X) → list_all p xs ≡ true → i < length xs → p (get_or xs i d) ≡ true
+pub all_passes : {X : Type 0} (p : X → Bool) (xs : List X) (i : ℕ) (d : X) → list_all p xs ≡ true → i < length xs → p (get_or xs i d) ≡ true
 all_passes p [] i d h lt = absurd (omega arith)
 all_passes p (x ∷ xs) zero d h lt = and_left (p x) (list_all p xs) h
 all_passes p (x ∷ xs) (suc i) d h lt = all_passes p xs i d (and_right (p x) (list_all p xs) h) (omega arith)
@@ -82,6 +82,7 @@ pub record IsPicked (next : ℕ → Option ℕ) (options : List (ℕ × ℕ)) (p
   pub within : place < length options
   pub own : (get_or options place (0, 0)).1 ≡ p.0
   pub next_is : next (get_or options place (0, 0)).0 ≡ Some p.1
+  pub before : (j : ℕ) → j < place → next (get_or options j (0, 0)).0 ≡ None
 
 pub pick_from : (next : ℕ → Option ℕ) (options : List (ℕ × ℕ)) (p : ℕ × ℕ) → pick next options ≡ Some p → IsPicked next options p
 pick_from next [] p e = absurd (cc)
@@ -90,10 +91,14 @@ pick_from next (o ∷ os) p e = go (next o.0) refl (pick_from next os p) e
     go : (x : Option ℕ) → next o.0 ≡ x → (pick next os ≡ Some p → IsPicked next os p) → pick_or o.1 x (pick next os) ≡ Some p → IsPicked next (o ∷ os) p
     go None none later is =
         let r = later is in
-        record { place = suc r.place; within = omega (arith, r.within); own = r.own; next_is = r.next_is }
+        record { place = suc r.place; within = omega (arith, r.within); own = r.own; next_is = r.next_is; before = before none r.place r.before }
+      where
+        before : next o.0 ≡ None → (i : ℕ) → ((j : ℕ) → j < i → next (get_or os j (0, 0)).0 ≡ None) → (j : ℕ) → j < suc i → next (get_or (o ∷ os) j (0, 0)).0 ≡ None
+        before first i rest zero l = first
+        before first i rest (suc j) l = rest j (omega arith)
     go (Some n) some later is =
         let same : ◌≡◌ {A = ℕ × ℕ} (o.1, n) p = same_Some _ _ is in
-        record { place = 0; within = omega arith; own = ap (λ q. q.0) same; next_is = some ∙ ap (λ q. Some q.1) same }
+        record { place = 0; within = omega arith; own = ap (λ q. q.0) same; next_is = some ∙ ap (λ q. Some q.1) same; before = λ j l. absurd (omega arith) }
 
 -- the first options while they are gone through
 pub pick_more : (nexts : List (Option ℕ)) (options : List (ℕ × ℕ)) (i : ℕ) (o : ℕ × ℕ) → i < length options → o ≡ get_or options i o → lead nexts o.0 ≡ None
@@ -153,6 +158,16 @@ passes t n (x ∷ xs) i j d e at = go (t x) refl (λ k e' at'. passes t (n + 1) 
     go true here later is (suc k) at' = let same : n ≡ i = same_Some n i is in absurd (omega arith)
     go false here later is zero at' = let r = position_within t (n + 1) xs i is in absurd (omega (arith, r.0))
     go false here later is (suc k) at' = later k is (omega arith)
+
+-- nothing before the first that passes does
+pub passes_none : {X : Type 0} (t : X → Bool) (n : ℕ) (xs : List X) (i j : ℕ) (d : X) → position_from t n xs ≡ Some i → n + j < i → t (get_or xs j d) ≡ false
+passes_none t n [] i j d e l = absurd (cc)
+passes_none t n (x ∷ xs) i j d e l = go (t x) refl (λ k e' l'. passes_none t (n + 1) xs i k d e' l') e j l
+  where
+    go : (b : Bool) → t x ≡ b → ((k : ℕ) → position_from t (n + 1) xs ≡ Some i → n + 1 + k < i → t (get_or xs k d) ≡ false) → cond b (Some n) (position_from t (n + 1) xs) ≡ Some i → (j : ℕ) → n + j < i → t (get_or (x ∷ xs) j d) ≡ false
+    go true here later is j l' = let same : n ≡ i = same_Some n i is in absurd (omega arith)
+    go false here later is zero l' = here
+    go false here later is (suc k) l' = later k is (omega arith)
 
 pub leader_leads : (g : GameData) (next : ℕ → Option ℕ) (c : ℕ) → leader next g.classes ≡ Some c → all_lead next (class_at g c).options ≡ true
 leader_leads g next c e = passes (λ c. all_lead next c.options) 0 g.classes c c no_class e (omega arith)

@@ -2,6 +2,7 @@ pub mod Answered
 pub mod Faults
 pub mod Kept
 pub mod Leading
+pub mod Least
 pub mod Made
 pub mod Numbered
 pub mod Played

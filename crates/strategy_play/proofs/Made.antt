@@ -10,15 +10,16 @@ use Rattle.word_core.specs.declared.machines.Line.{Line}
 use Rattle.word_core.specs.Cube.{IsCube, holds}
 use Rattle.word_core.specs.Machine.{choice, IsLine, IsDecided, HasOneOwn}
 use Rattle.word_core.proofs.TreeLabels.{label_of-all}
-use Rattle.letter_tree.specs.Splitting.{pattern_of, splitting}
+use Rattle.letter_tree.specs.Splitting.{all_cube, pattern_of, splitting}
 use Rattle.letter_tree.specs.Diagram.{TreeData, IsRooted}
 use Rattle.word_core.specs.Tree.{label_of}
 use Rattle.game_form.specs.Game.{GameData, ClassData, IsGame, IsClass, own_width, other_width, class_at, option_at, of_first, of_second, class_of, action_of}
 use Rattle.strategy_play.specs.Lead.{lead, LeadBelow, ArePicks, AreTargets}
 use Rattle.strategy_play.specs.Line.{line_by_class, line_by_action}
+use Rattle.strategy_play.specs.Splitting.{IsSplitting, AreSplit}
 use Rattle.strategy_play.specs.State.{IsState}
 use Rattle.strategy_play.proofs.Leading.{picks_within}
-use Rattle.strategy_play.proofs.Splits.{want_within}
+use Rattle.strategy_play.proofs.Splits.{want_within, splitting_splits}
 
 module _ (f : Cube × ℕ → Line) (same : (p : Cube × ℕ) → (f p).when ≡ p.0) where
   chosen : (cubes : List (Cube × ℕ)) (x l : ℕ) → pattern_of cubes x ≡ Some l → IsSome (choice (map f cubes) x)
@@ -29,6 +30,14 @@ module _ (f : Cube × ℕ → Line) (same : (p : Cube × ℕ) → (f p).when ≡
       go : (b : Bool) → (pattern_of ps x ≡ Some l → IsSome (choice (map f ps) x)) → cond b (Some p.1) (pattern_of ps x) ≡ Some l → is_some (cond b (Some (f p)) (choice (map f ps) x)) ≡ true
       go true later is = refl
       go false later is = later is
+
+  whens : (cubes : List (Cube × ℕ)) → map (λ l. l.when) (map f cubes) ≡ map (λ p. p.0) cubes
+  whens [] = refl
+  whens (p ∷ ps) = ap (λ c. c ∷ map (λ l. l.when) (map f ps)) (same p) ∙ ap (λ cs. p.0 ∷ cs) (whens ps)
+
+  -- lines with the cubes of a splitting split the valuations
+  pub split_by : (width : ℕ) (cubes : List (Cube × ℕ)) → IsSplitting width 0 all_cube (map (λ p. p.0) cubes) → AreSplit width (map f cubes)
+  split_by width cubes is = subst (IsSplitting width 0 all_cube) (sym (whens cubes)) is
 
   -- lines with the cubes of a splitting decide each valuation
   pub decided_by : (width : ℕ) (cubes : List (Cube × ℕ)) (label : ℕ → ℕ) → ((x : ℕ) → pattern_of cubes x ≡ Some (label x)) → IsDecided width (map f cubes)
@@ -43,13 +52,14 @@ one_own own f same cubes d i j in_i in_j =
 -- the lines by class make a state
 pub second_state : (g : GameData) (nexts : List (Option ℕ)) (picks : List (ℕ × ℕ)) (cubes : List (Cube × ℕ)) (label : ℕ → ℕ) → IsGame g → g.kind ≡ Second → ArePicks g (lead nexts) picks
     → ((x : ℕ) → x < 2 ^ other_width g → class_of g x < length g.classes)
-    → All (λ p. IsCube (other_width g) p.0) cubes → ((x : ℕ) → pattern_of cubes x ≡ Some (label x))
+    → All (λ p. IsCube (other_width g) p.0) cubes → ((x : ℕ) → pattern_of cubes x ≡ Some (label x)) → IsSplitting (other_width g) 0 all_cube (map (λ p. p.0) cubes)
     → (count : ℕ) → LeadBelow count nexts → IsState g count (map (line_by_class g picks) cubes)
-second_state g nexts picks cubes label known kind are class_in cubes_in split count below = record {
+second_state g nexts picks cubes label known kind are class_in cubes_in split parts count below = record {
   ranged = All-map (IsLine (own_width g) (other_width g) count) (line_by_class g picks) cubes
       (All-weaker (λ p. IsCube (other_width g) p.0) (λ p. IsLine (own_width g) (other_width g) count (line_by_class g picks p)) (λ p is. line p is) cubes cubes_in);
   decided = decided_by (line_by_class g picks) (λ p. refl) (other_width g) cubes label split;
   first = λ e. absurd (let h = sym kind ∙ e in cc);
+  split = split_by (line_by_class g picks) (λ p. refl) (other_width g) cubes parts;
 }
   where
     line : (p : Cube × ℕ) → IsCube (other_width g) p.0 → IsLine (own_width g) (other_width g) count (line_by_class g picks p)
@@ -64,13 +74,14 @@ second_state g nexts picks cubes label known kind are class_in cubes_in split co
 -- the lines by action make a state
 pub first_state : (g : GameData) (own : ℕ) (targets : List ℕ) (cubes : List (Cube × ℕ)) (label : ℕ → ℕ) (count : ℕ) → own < 2 ^ own_width g
     → ((a : ℕ) → get_or targets a 0 < count)
-    → All (λ p. IsCube (other_width g) p.0) cubes → ((x : ℕ) → pattern_of cubes x ≡ Some (label x))
+    → All (λ p. IsCube (other_width g) p.0) cubes → ((x : ℕ) → pattern_of cubes x ≡ Some (label x)) → IsSplitting (other_width g) 0 all_cube (map (λ p. p.0) cubes)
     → IsState g count (map (line_by_action g own targets) cubes)
-first_state g own targets cubes label count own_in below cubes_in split = record {
+first_state g own targets cubes label count own_in below cubes_in split parts = record {
   ranged = All-map (IsLine (own_width g) (other_width g) count) (line_by_action g own targets) cubes
       (All-weaker (λ p. IsCube (other_width g) p.0) (λ p. IsLine (own_width g) (other_width g) count (line_by_action g own targets p)) (λ p is. (is, own_in, below (action_of g own p.0.want))) cubes cubes_in);
   decided = decided_by (line_by_action g own targets) (λ p. refl) (other_width g) cubes label split;
   first = λ e. one_own own (line_by_action g own targets) (λ p. refl) cubes;
+  split = split_by (line_by_action g own targets) (λ p. refl) (other_width g) cubes parts;
 }
 
 -- the lines of a tree of the other's valuations, as the code has them
@@ -81,6 +92,11 @@ pub record AreCubes (g : GameData) (tree : TreeData) (cubes : List (Cube × ℕ)
   pub within : All (λ p. IsCube tree.width p.0) cubes
   pub split : (x : ℕ) → pattern_of cubes x ≡ Some (label_of tree.nodes x)
 
+cubes_split : (g : GameData) (tree : TreeData) (cubes : List (Cube × ℕ)) → AreCubes g tree cubes → IsSplitting (other_width g) 0 all_cube (map (λ p. p.0) cubes)
+cubes_split g tree cubes are =
+    subst (λ w. IsSplitting w 0 all_cube (map (λ p. p.0) cubes)) are.width
+    (subst (λ cs. IsSplitting tree.width 0 all_cube (map (λ p. p.0) cs)) (sym are.lines) (splitting_splits tree.width tree.nodes are.rooted))
+
 pub second_made : (g : GameData) (nexts : List (Option ℕ)) (picks picks' : List (ℕ × ℕ)) (cubes cubes' : List (Cube × ℕ)) (tree : TreeData) (out : List Line) → IsGame g → g.kind ≡ Second
     → ArePicks g (lead nexts) picks' → picks ≡ picks' → AreCubes g tree cubes' → cubes ≡ cubes'
     → ((x : ℕ) → x < 2 ^ other_width g → class_of g x < length g.classes)
@@ -88,7 +104,7 @@ pub second_made : (g : GameData) (nexts : List (Option ℕ)) (picks picks' : Lis
 second_made g nexts picks picks' cubes cubes' tree out known kind are same_picks cubes_are same_cubes class_in made count below =
     subst (IsState g count) (sym (made ∙ ap (λ ps. map (line_by_class g ps) cubes) same_picks ∙ ap (map (line_by_class g picks')) same_cubes))
     (second_state g nexts picks' cubes' (label_of tree.nodes) known kind are class_in
-    (subst (λ w. All (λ p. IsCube w p.0) cubes') cubes_are.width cubes_are.within) cubes_are.split count below)
+    (subst (λ w. All (λ p. IsCube w p.0) cubes') cubes_are.width cubes_are.within) cubes_are.split (cubes_split g tree cubes' cubes_are) count below)
 
 pub first_made : (g : GameData) (nexts : List (Option ℕ)) (class : ClassData) (own : ℕ) (targets targets' : List ℕ) (cubes cubes' : List (Cube × ℕ)) (tree : TreeData) (out : List Line) → g.kind ≡ First
     → IsClass g class → own ≡ class.least → AreTargets nexts class.options targets' → targets ≡ targets' → AreCubes g tree cubes' → cubes ≡ cubes'
@@ -97,7 +113,7 @@ first_made g nexts class own targets targets' cubes cubes' tree out kind is own_
     let own_in : own < 2 ^ own_width g = subst (λ n. n < 2 ^ own_width g) (sym own_is) (subst (λ k. class.least < 2 ^ of_first k (own_width g) (other_width g)) kind is.least) in
     subst (IsState g count) (sym (made ∙ ap (λ ts. map (line_by_action g own ts) cubes) same_targets ∙ ap (map (line_by_action g own targets')) same_cubes))
     (first_state g own targets' cubes' (label_of tree.nodes) count own_in (are.below count some below)
-    (subst (λ w. All (λ p. IsCube w p.0) cubes') cubes_are.width cubes_are.within) cubes_are.split)
+    (subst (λ w. All (λ p. IsCube w p.0) cubes') cubes_are.width cubes_are.within) cubes_are.split (cubes_split g tree cubes' cubes_are))
 
 -- each valuation of the first mover has a class
 pub class_within : (g : GameData) → IsGame g → (x : ℕ) → x < 2 ^ other_width g → class_of g x < length g.classes

@@ -1,5 +1,5 @@
 -- In a splitting each cube has the label of all that it holds.
-use Rattle.std.proofs.Common.{◌≡◌, ℕ, zero, suc, ◌+◌, ◌-◌, ◌*◌, ◌/◌, ◌%◌, ◌^◌, ◌<◌, Bool, true, false, cond, eqb, ◌&&◌, bit_and, List, [], length, Option, Some, None, refl, sym, ◌∙◌, ap, arith}
+use Rattle.std.proofs.Common.{◌≡◌, ℕ, zero, suc, ◌+◌, ◌-◌, ◌*◌, ◌/◌, ◌%◌, ◌^◌, ◌<◌, ◌≤◌, Bool, true, false, cond, eqb, ◌&&◌, bit_and, List, [], ◌++◌, length, map, subst, Option, Some, None, refl, sym, ◌∙◌, ap, arith}
 use Rattle.std.specs.List.{All, slice_get}
 use Rattle.std.proofs.lemmas.Bool.Decides.{Decides-eqb}
 use Rattle.std.proofs.lemmas.List.Elements.{All-nil, All-cons, All-append, All-weaker}
@@ -14,6 +14,10 @@ use Rattle.letter_tree.specs.Splitting.{all_cube, fixed, next_lines, lines_from,
 use Rattle.letter_tree.proofs.Diagrams.{label_at-leaf, label_at-split}
 use Rattle.letter_tree.proofs.Joints.{fork_at}
 use Rattle.letter_tree.proofs.SplitLines.{IsCube-wider, holds_fixed}
+use Rattle.letter_tree.proofs.Copies.{read_at}
+use Rattle.std.proofs.lemmas.List.{map-append}
+use Rattle.strategy_play.specs.Splitting.{IsSplitting}
+use Rattle.strategy_play.specs.Splitting.IsSplitting.{whole, split}
 use Rattle.strategy_play.proofs.Leading.{and_left, and_right}
 
 pub want_within : (width : ℕ) (c : Cube) → IsCube width c → c.want < 2 ^ width
@@ -83,3 +87,26 @@ unfolding lines_at
 splitting_holds w nodes r =
     All-weaker (IsInside nodes (length nodes - 1) all_cube) (λ p. (x : ℕ) → holds p.0 x ≡ true → label_of nodes x ≡ p.1) (λ p is. is.label) (splitting nodes)
     (lines_inside w nodes r.diagram (suc (length nodes - 1)) (length nodes - 1) all_cube (pow_pos (top w (slice_get nodes (length nodes - 1))), refl))
+
+-- the cubes of a splitting split one
+lines_split : (w : ℕ) (nodes : List Branch) → IsDiagram w nodes → (n place from : ℕ) (c : Cube) → place < n → place < length nodes → from ≤ top w (slice_get nodes place)
+    → IsSplitting w from c (map (λ p. p.0) (lines_from n nodes place c))
+lines_split w nodes d zero place from c l within above = absurd (omega arith)
+lines_split w nodes d (suc n) place from c l within above = go (slice_get nodes place) refl above (λ i f' c' l' w' a'. lines_split w nodes d n i f' c' l' w' a')
+  where
+    go : (o : Option Branch) → slice_get nodes place ≡ o → from ≤ top w o
+        → ((i f' : ℕ) (c' : Cube) → i < n → i < length nodes → f' ≤ top w (slice_get nodes i) → IsSplitting w f' c' (map (λ p. p.0) (lines_from n nodes i c')))
+        → IsSplitting w from c (map (λ p. p.0) (next_lines (lines_from n nodes) c o))
+    go None e a ih = absurd (let some = read_at nodes place (Leaf 0) _ within refl in cc)
+    go (Some (Leaf label)) e a ih = whole from c
+    go (Some (Split s lo hi)) e a ih =
+        let f : IsFork w nodes place s lo hi = fork_at w nodes place s lo hi d e in
+        subst (IsSplitting w from c) (sym (map-append (λ p. p.0) (lines_from n nodes lo (fixed c s false)) (lines_from n nodes hi (fixed c s true))))
+        (split from s c (map (λ p. p.0) (lines_from n nodes lo (fixed c s false))) (map (λ p. p.0) (lines_from n nodes hi (fixed c s true))) a f.signal_in
+        (ih lo (s + 1) (fixed c s false) (omega (arith, f.low_earlier)) (omega (arith, f.low_earlier)) (omega (arith, f.low_later)))
+        (ih hi (s + 1) (fixed c s true) (omega (arith, f.high_earlier)) (omega (arith, f.high_earlier)) (omega (arith, f.high_later))))
+
+pub splitting_splits : (w : ℕ) (nodes : List Branch) → IsRooted w nodes → IsSplitting w 0 all_cube (map (λ p. p.0) (splitting nodes))
+unfolding lines_at
+splitting_splits w nodes r =
+    lines_split w nodes r.diagram (suc (length nodes - 1)) (length nodes - 1) 0 all_cube (omega arith) (omega (arith, r.some)) (omega arith)

@@ -1,5 +1,5 @@
 -- Entries numbered as they are met, and states while more are met.
-use Rattle.std.proofs.Common.{◌≡◌, ℕ, zero, suc, ◌+◌, ◌<◌, ◌≤◌, ◌^◌, Bool, true, false, cond, List, [], ◌∷◌, ◌++◌, length, get_or, set, replicate, Option, Some, None, refl, sym, ◌∙◌, ap, subst, arith, inl, inr, append_assoc, append-nil, length-append, max}
+use Rattle.std.proofs.Common.{◌≡◌, ℕ, zero, suc, ◌+◌, ◌<◌, ◌≤◌, ◌^◌, Bool, true, false, cond, List, [], ◌∷◌, ◌++◌, length, map, get_or, set, replicate, Option, Some, None, refl, sym, ◌∙◌, ap, subst, arith, inl, inr, append_assoc, append-nil, length-append, max}
 use Rattle.std.specs.Option.{is_some, IsSome}
 use Rattle.std.specs.List.{All, AllZip, flat_map}
 use Rattle.std.proofs.lemmas.Bool.{cases_eq, cases_lt}
@@ -11,6 +11,8 @@ use Rattle.word_core.specs.Cube.{IsCube, holds}
 use Rattle.word_core.specs.Machine.{choice, IsLine}
 use Rattle.game_form.specs.Game.{GameData, own_width, other_width}
 use Rattle.strategy_play.specs.Lead.{lead}
+use Rattle.letter_tree.specs.Splitting.{all_cube}
+use Rattle.strategy_play.specs.Splitting.{IsSplitting}
 use Rattle.strategy_play.specs.State.{IsState}
 use Rattle.strategy_play.specs.Walk.{open_count, IsWalk, Extends, IsRenumbered, InTurn, nexts_of}
 
@@ -120,6 +122,12 @@ zip_chosen order (l ∷ ls) (m ∷ ms) x z h =
     go true later is = refl
     go false later is = later is
 
+zip_whens : (order : List ℕ) (ls ms : List Line) → AllZip (IsRenumbered order) ls ms → map (λ m. m.when) ms ≡ map (λ l. l.when) ls
+zip_whens order [] [] z = refl
+zip_whens order [] (m ∷ ms) z = absurd z
+zip_whens order (l ∷ ls) [] z = absurd z
+zip_whens order (l ∷ ls) (m ∷ ms) z = ap (λ c. c ∷ map (λ m. m.when) ms) z.0.when ∙ ap (λ cs. l.when ∷ cs) (zip_whens order ls ms z.1)
+
 -- the lines of a state, renumbered
 pub state_renumbered : (g : GameData) (count : ℕ) (order : List ℕ) (ls ms : List Line) → AllZip (IsRenumbered order) ls ms → IsState g count ls → IsState g (length order) ms
 state_renumbered g count order ls ms z state =
@@ -130,6 +138,7 @@ state_renumbered g count order ls ms z state =
       first = λ e d i j in_i in_j.
           let at = λ (k : ℕ) (lt : k < length ls). (AllZip-get_or (IsRenumbered order) ls ms k d d z lt).own in
           at i (omega arith) ∙ state.first e d i j (omega arith) (omega arith) ∙ sym (at j (omega arith));
+      split = subst (IsSplitting (other_width g) 0 all_cube) (sym (zip_whens order ls ms z)) state.split;
     }
 
 -- a state stays one while there are more
@@ -138,6 +147,7 @@ state_grows g a b lines less state = record {
   ranged = All-weaker (IsLine (own_width g) (other_width g) a) (IsLine (own_width g) (other_width g) b) (λ l is. (is.0, is.1, omega (arith, is.2))) lines state.ranged;
   decided = state.decided;
   first = state.first;
+  split = state.split;
 }
 
 pub states_grow : (g : GameData) (a b : ℕ) (states : List (List Line)) → a ≤ b → All (IsState g a) states → All (IsState g b) states

@@ -1,8 +1,11 @@
 pub mod Answer
+pub mod Exact
 pub mod Example
 pub mod Lead
 pub mod Line
+pub mod Ordered
 pub mod Restriction
+pub mod Splitting
 pub mod State
 pub mod Strategy
 pub mod Walk

@@ -8,7 +8,10 @@ ghost use Rattle.antichain_list.specs.Antichain.{covered};
 ghost use Rattle.counter_vec.specs.Counters.{at_or_below};
 ghost use Rattle.cpre_step.specs.Refinement.{AreVectors, answers};
 ghost use Rattle.strategy_play.specs.Lead.{place_above};
+ghost use Rattle.game_form.specs.Covering.{CoversLetters};
 ghost use Rattle.game_form.specs.Letters.{HasLetters};
+ghost use Rattle.strategy_play.specs.Exact.{IsMachineOfList};
+ghost use Rattle.strategy_play.specs.Ordered.{IsInOrder};
 ghost use Rattle.strategy_play.specs.State.{IsState};
 ghost use Rattle.strategy_play.specs.Strategy.{IsStrategy};
 
@@ -33,6 +36,7 @@ pub fn extract(alloc: Global, g: &Game, d: &ListDownset<Counters>) -> Result<Mac
     ensures inputs { IfOk result (λ m. m.inputs ≡ g.now.inputs) }
     ensures outputs { IfOk result (λ m. m.outputs ≡ g.now.outputs) }
     ensures strategy { IfOk result (λ m. IsStrategy g.now d.now m.states) }
+    ensures exact { IfOk result (λ m. HasLetters g.now → CoversLetters g.now → IsInOrder g.now → IsMachineOfList g.now d.now m.states) }
     ensures keeps { IfOk result (λ m. HasLetters g.now → KeepsFrom g.now m 0 (initial g.now)) }
 {
     g.known();
