@@ -3,4 +3,5 @@ pub mod Bounds
 pub mod Counting
 pub mod Errors
 pub mod Games
+pub mod Tableaux
 pub mod Winning

@@ -4,6 +4,8 @@ use Rattle.dual_game.proofs.games.automata.Goals as goal
 
 pub returns-clause-pair : goal.returns-clause-pair
 returns-clause-pair c = record {
-  system = avoids c.args.s.now.formula System c.in_ok-negated.negated.nodes c.in_ok-negated.negated.root c.in_ok-trimmed.field-0 c.in_ok-negated.ensures.meaning c.in_ok-trimmed.ensures.accepts;
-  environment = avoids c.args.s.now.formula Environment c.in_ok-positive.positive.nodes c.in_ok-positive.positive.root c.in_ok-trimmed-2.field-0 c.in_ok-positive.ensures.meaning c.in_ok-trimmed-2.ensures.accepts;
+  system = avoids c.args.s.now System c.in_ok-negated.negated.nodes c.in_ok-negated.negated.root c.in_ok-negated.ensures.normal c.signals_of.result c.signals_of.ensures c.in_ok-negated.ensures.meaning
+      c.in_ok-trimmed.field-0 c.in_ok-trimmed.ensures.tableau c.in_ok-trimmed.ensures.accepts;
+  environment = avoids c.args.s.now Environment c.in_ok-positive.positive.nodes c.in_ok-positive.positive.root c.in_ok-positive.ensures.normal c.signals_of-2.result c.signals_of-2.ensures c.in_ok-positive.ensures.meaning
+      c.in_ok-trimmed-2.field-0 c.in_ok-trimmed-2.ensures.tableau c.in_ok-trimmed-2.ensures.accepts;
 }
