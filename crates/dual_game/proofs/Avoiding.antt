@@ -1,6 +1,6 @@
 -- The automata of normal forms are those of the specification, and so are their limits.
 use Rattle.std.proofs.Common.{◌≡◌, ◌∙◌, ℕ, ◌+◌, ◌<◌, ◌≤◌, ◌⊎◌, inl, inr, Bool, true, length, refl, sym, subst, arith}
-use Rattle.std.specs.Prelude.{◌↔◌, List, [], Result, Ok, Err, IfOk, IfErr}
+use Rattle.std.specs.Prelude.{◌↔◌, List, [], Result, Ok, Err, IfOk, IfErr, IsErrAnd}
 use Rattle.ltl_form.specs.declared.normals.FormError.{FormError}
 use Rattle.ltl_form.specs.declared.normals.FormError.TheVariants as form
 use Rattle.ltl_form.specs.declared.normals.Node.{Node}
@@ -27,6 +27,11 @@ use Rattle.dual_game.specs.declared.errors.GameError.TheVariants.{TooManyFormula
 use Rattle.dual_game.specs.Automata.{avoided, avoids_truth, formula_count, IsAutomatonOf, IsNormalOf, HasTableau, HasWalkLimit, IsLimitOf, IsLimitOfPair}
 use Rattle.dual_game.specs.Errors.{of_form, of_tableau}
 use Rattle.dual_game.specs.Tableaux.{IsTrimmedTableau, IsTableauLimit}
+
+-- what holds of an error holds of the same one passed on
+pub passed_on : {T E : Type 0} (r : Result T E) (e : E) (P : E → Type 0) → IsErrAnd r (λ x. x ≡ e) → P e → IfErr r P
+passed_on (Ok a) e P same p = tt
+passed_on (Err x) e P same p = subst P (sym same) p
 
 -- trimming keeps what is accepted
 pub trimmed_accepts : (nodes : List Node) (root : ℕ) (whole t : AutomatonData) → AcceptsTruthOf nodes root whole → AcceptSame whole t → AcceptsTruthOf nodes root t
