@@ -35,24 +35,24 @@ module _ (texts : Option Texts) where
   answer_as order s s' t t' h k a = subst (λ x. IsAnswer texts order x t) (sym h) (subst (IsAnswer texts order s') (sym k) a)
 
   pub is_decided : (name : List ℕ) (bounds : ℕ × ℕ × ℕ) (workers : ℕ) (as_written : Bool) (spec : Spec) (pair : Pair) (v : Verdict) (s : ℕ) (t : List ℕ)
-      → IsSpecOf texts name as_written spec → IsPairOf spec.formula pair → IsVerdict pair spec.names (bounds_of bounds) v → s ≡ verdict_of v → t ≡ verdict_text spec.names v
+      → IsSpecOf texts name as_written spec → IsPairOf spec pair → IsVerdict pair spec.names (bounds_of bounds) v → s ≡ verdict_of v → t ≡ verdict_text spec.names v
       → IsAnswer texts (synth name bounds workers as_written) s t
   is_decided name bounds workers as_written spec pair v s t of are is h k =
-      answer_as _ s _ t _ h k (decided name bounds workers as_written spec pair v of are is (satisfied spec.formula pair spec.names (bounds_of bounds) v are is) (alone spec.formula pair spec.names (bounds_of bounds) v are is))
+      answer_as _ s _ t _ h k (decided name bounds workers as_written spec pair v of are is (satisfied spec pair spec.names (bounds_of bounds) v are is) (alone spec pair spec.names (bounds_of bounds) v are is))
 
   pub is_downset : (name : List ℕ) (player : Player) (bound : ℕ) (as_written : Bool) (spec : Spec) (a : AutomatonData) (g : GameData) (vectors : List (List ℤ)) (s : ℕ) (t : List ℕ)
-      → IsSpecOf texts name as_written spec → IsAutomatonOf spec.formula player a → IsGameOf a spec.names player bound g → HasHeld g vectors → s ≡ 0 → t ≡ downset_text player bound (lanes g) vectors
+      → IsSpecOf texts name as_written spec → IsAutomatonOf spec player a → IsGameOf a spec.names player bound g → HasHeld g vectors → s ≡ 0 → t ≡ downset_text player bound (lanes g) vectors
       → IsAnswer texts (downset name player bound as_written) s t
   is_downset name player bound as_written spec a g vectors s t of accepts is all h k = answer_as _ s _ t _ h k (held name player bound as_written spec a g vectors of accepts is all)
 
   pub is_valid : (name machine : List ℕ) (bound : ℕ) (as_written : Bool) (spec : Spec) (m : MachineData) (a : AutomatonData) (s : ℕ) (t : List ℕ)
-      → IsSpecOf texts name as_written spec → IsMachineIn texts machine spec m → IsAutomatonOf spec.formula m.player a → Keeps a m bound → s ≡ 0 → t ≡ codes "VALID" ++ codes "\n"
+      → IsSpecOf texts name as_written spec → IsMachineIn texts machine spec m → IsAutomatonOf spec m.player a → Keeps a m bound → s ≡ 0 → t ≡ codes "VALID" ++ codes "\n"
       → IsAnswer texts (check name machine bound as_written) s t
   is_valid name machine bound as_written spec m a s t of under accepts keeps h k =
-      answer_as _ s _ t _ h k (valid name machine bound as_written spec m a of under accepts keeps (kept_avoids spec.formula m.player a m bound accepts keeps))
+      answer_as _ s _ t _ h k (valid name machine bound as_written spec m a of under accepts keeps (kept_avoids spec m.player a m bound accepts keeps))
 
   pub is_over : (name machine : List ℕ) (bound : ℕ) (as_written : Bool) (spec : Spec) (m : MachineData) (a : AutomatonData) (s : ℕ) (t : List ℕ)
-      → IsSpecOf texts name as_written spec → IsMachineIn texts machine spec m → IsAutomatonOf spec.formula m.player a → (Keeps a m bound → ⊥) → s ≡ 40 → t ≡ codes "OVER" ++ codes "\n"
+      → IsSpecOf texts name as_written spec → IsMachineIn texts machine spec m → IsAutomatonOf spec m.player a → (Keeps a m bound → ⊥) → s ≡ 40 → t ≡ codes "OVER" ++ codes "\n"
       → IsAnswer texts (check name machine bound as_written) s t
   is_over name machine bound as_written spec m a s t of under accepts keeps h k = answer_as _ s _ t _ h k (over name machine bound as_written spec m a of under accepts keeps)
 
@@ -67,14 +67,14 @@ module _ (texts : Option Texts) where
   is_fails name lasso as_written spec w s t of under is h k = answer_as _ s _ t _ h k (fails name lasso as_written spec w of under is)
 
   pub is_generated : (clients workers : ℕ) (spec : Spec) (pair : Pair) (v : Verdict) (s : ℕ) (t : List ℕ)
-      → IsSpec (arbiter_text clients) false spec → IsPairOf spec.formula pair → IsVerdict pair spec.names (bounds_of (0, 1, 8)) v → s ≡ 0 → t ≡ arbiter_text clients ++ verdict_comment v
+      → IsSpec (arbiter_text clients) false spec → IsPairOf spec pair → IsVerdict pair spec.names (bounds_of (0, 1, 8)) v → s ≡ 0 → t ≡ arbiter_text clients ++ verdict_comment v
       → IsAnswer texts (gen clients workers) s t
   is_generated clients workers spec pair v s t of are is h k =
-      answer_as _ s _ t _ h k (generated clients workers spec pair v of are is (satisfied spec.formula pair spec.names (bounds_of (0, 1, 8)) v are is) (alone spec.formula pair spec.names (bounds_of (0, 1, 8)) v are is))
+      answer_as _ s _ t _ h k (generated clients workers spec pair v of are is (satisfied spec pair spec.names (bounds_of (0, 1, 8)) v are is) (alone spec pair spec.names (bounds_of (0, 1, 8)) v are is))
 
   -- of a machine whose bound was kept or not
   pub is_checked : (name machine : List ℕ) (bound : ℕ) (as_written : Bool) (spec : Spec) (text : List ℕ) (m : MachineData) (a : AutomatonData) (kept : Bool) (answer : Answer)
-      → IsSpecOf texts name as_written spec → IsUnder texts machine text → Spells spec.names text m → IsAutomatonOf spec.formula m.player a → IsTrue kept ↔ Keeps a m bound
+      → IsSpecOf texts name as_written spec → IsUnder texts machine text → Spells spec.names text m → IsAutomatonOf spec m.player a → IsTrue kept ↔ Keeps a m bound
       → (kept ≡ true → IsWord 0 (codes "VALID") answer) → (kept ≡ false → IsWord 40 (codes "OVER") answer)
       → IsAnswer texts (check name machine bound as_written) answer.status answer.text.items
   is_checked name machine bound as_written spec text m a true answer of under spells accepts keeps yes_word no_word =

@@ -1,6 +1,6 @@
 -- What a verdict on automata says of the formula.
 use Rattle.std.proofs.Common.{◌≡◌, ℕ, ◌<◌, Bool, true, false, not, length, refl, sym, ◌∙◌, ap}
-use Rattle.ltl_form.specs.declared.formulas.Ltl.{Ltl}
+use Rattle.tlsf_basic.specs.declared.specifications.Spec.{Spec}
 use Rattle.ltl_form.specs.Meaning.{holds_at}
 use Rattle.word_core.specs.declared.names.Names.{Names}
 use Rattle.word_core.specs.declared.names.Player.{Player}
@@ -22,36 +22,36 @@ use Rattle.bonsai_run.specs.Answers.{IsVerdict, IsSatisfied, IsAlone, other_play
 false≢true : false ≡ true → ⊥
 false≢true e = cc
 
-of_player : (f : Ltl) (pair : Pair) → IsPairOf f pair → (who : Player) → IsAutomatonOf f who (automaton_of pair who)
-of_player f pair is System = is.system
-of_player f pair is Environment = is.environment
+of_player : (s : Spec) (pair : Pair) → IsPairOf s pair → (who : Player) → IsAutomatonOf s who (automaton_of pair who)
+of_player s pair is System = is.system
+of_player s pair is Environment = is.environment
 
 -- what a machine keeps has no lasso that its player must avoid
-pub kept_avoids : (f : Ltl) (who : Player) (a : AutomatonData) (m : MachineData) (k : ℕ) → IsAutomatonOf f who a → Keeps a m k
-    → (w : LassoData) → 0 < length w.cycle → IsLassoPlay m w → avoided who (holds_at w f 0) ≡ false
-kept_avoids f who a m k is keeps w some play = by (avoided who (holds_at w f 0)) refl
+pub kept_avoids : (s : Spec) (who : Player) (a : AutomatonData) (m : MachineData) (k : ℕ) → IsAutomatonOf s who a → Keeps a m k
+    → (w : LassoData) → 0 < length w.cycle → IsLassoPlay m w → avoided who (holds_at w s.formula 0) ≡ false
+kept_avoids s who a m k is keeps w some play = by (avoided who (holds_at w s.formula 0)) refl
   where
-    by : (b : Bool) → avoided who (holds_at w f 0) ≡ b → avoided who (holds_at w f 0) ≡ false
-    by true e = absurd (kept_is_refused a m w k keeps play ((is w some).1 e))
+    by : (b : Bool) → avoided who (holds_at w s.formula 0) ≡ b → avoided who (holds_at w s.formula 0) ≡ false
+    by true e = absurd (kept_is_refused a m w k keeps play ((is.accepts w some).1 e))
     by false e = e
 
-pub satisfied : (f : Ltl) (pair : Pair) (names : Names) (b : Bounds) (v : Verdict) → IsPairOf f pair → IsVerdict pair names b v → IsSatisfied f v
-satisfied f pair names b (Won bound machine) is verdict =
-    kept_avoids f machine.player (automaton_of pair machine.player) machine bound (of_player f pair is machine.player) verdict.3
-satisfied f pair names b (Unknown bound) is verdict = tt
+pub satisfied : (s : Spec) (pair : Pair) (names : Names) (b : Bounds) (v : Verdict) → IsPairOf s pair → IsVerdict pair names b v → IsSatisfied s.formula v
+satisfied s pair names b (Won bound machine) is verdict =
+    kept_avoids s machine.player (automaton_of pair machine.player) machine bound (of_player s pair is machine.player) verdict.3
+satisfied s pair names b (Unknown bound) is verdict = tt
 
-opposed : (f : Ltl) (pair : Pair) → IsPairOf f pair → AreOpposed pair.system pair.environment
-opposed f pair is w some not_system not_environment = by (holds_at w f 0) refl
+opposed : (s : Spec) (pair : Pair) → IsPairOf s pair → AreOpposed pair.system pair.environment
+opposed s pair is w some not_system not_environment = by (holds_at w s.formula 0) refl
   where
-    by : (b : Bool) → holds_at w f 0 ≡ b → ⊥
-    by true e = not_environment ((is.environment w some).1 e)
-    by false e = not_system ((is.system w some).1 (ap not e))
+    by : (b : Bool) → holds_at w s.formula 0 ≡ b → ⊥
+    by true e = not_environment ((is.environment.accepts w some).1 e)
+    by false e = not_system ((is.system.accepts w some).1 (ap not e))
 
 alone_of : (pair : Pair) (names : Names) (bound : ℕ) (m : MachineData) → AreOpposed pair.system pair.environment → (who : Player)
     → IsMachineFor names who m → Keeps (automaton_of pair who) m bound → (k : ℕ) → Wins (automaton_of pair (other_player who)) names (other_player who) k → ⊥
 alone_of pair names bound m apart System fits keeps k other = only_one_wins pair names bound k apart (record { machine = m; fits = fits; keeps = keeps }) other
 alone_of pair names bound m apart Environment fits keeps k other = only_one_wins pair names k bound apart other (record { machine = m; fits = fits; keeps = keeps })
 
-pub alone : (f : Ltl) (pair : Pair) (names : Names) (b : Bounds) (v : Verdict) → IsPairOf f pair → IsVerdict pair names b v → IsAlone pair names v
-alone f pair names b (Won bound machine) is verdict = alone_of pair names bound machine (opposed f pair is) machine.player verdict.2 verdict.3
-alone f pair names b (Unknown bound) is verdict = tt
+pub alone : (s : Spec) (pair : Pair) (names : Names) (b : Bounds) (v : Verdict) → IsPairOf s pair → IsVerdict pair names b v → IsAlone pair names v
+alone s pair names b (Won bound machine) is verdict = alone_of pair names bound machine (opposed s pair is) machine.player verdict.2 verdict.3
+alone s pair names b (Unknown bound) is verdict = tt

@@ -124,18 +124,18 @@ IsWord status word a = (a.status ≡ status) × (a.text.items ≡ word ++ codes 
 -- what an order is answered, where the shelf has these texts: a status and a text
 pub data IsAnswer (texts : Option Texts) : Asked → ℕ → List ℕ → Type 0 where
   decided : (name : List ℕ) (bounds : ℕ × ℕ × ℕ) (workers : ℕ) (as_written : Bool) (spec : Spec) (pair : Pair) (v : Verdict)
-      → IsSpecOf texts name as_written spec → IsPairOf spec.formula pair → IsVerdict pair spec.names (bounds_of bounds) v
+      → IsSpecOf texts name as_written spec → IsPairOf spec pair → IsVerdict pair spec.names (bounds_of bounds) v
       → IsSatisfied spec.formula v → IsAlone pair spec.names v
       → IsAnswer texts (synth name bounds workers as_written) (verdict_of v) (verdict_text spec.names v)
   held : (name : List ℕ) (player : Player) (bound : ℕ) (as_written : Bool) (spec : Spec) (a : AutomatonData) (g : GameData) (vectors : List (List ℤ))
-      → IsSpecOf texts name as_written spec → IsAutomatonOf spec.formula player a → IsGameOf a spec.names player bound g → HasHeld g vectors
+      → IsSpecOf texts name as_written spec → IsAutomatonOf spec player a → IsGameOf a spec.names player bound g → HasHeld g vectors
       → IsAnswer texts (downset name player bound as_written) 0 (downset_text player bound (lanes g) vectors)
   valid : (name machine : List ℕ) (bound : ℕ) (as_written : Bool) (spec : Spec) (m : MachineData) (a : AutomatonData)
-      → IsSpecOf texts name as_written spec → IsMachineIn texts machine spec m → IsAutomatonOf spec.formula m.player a → Keeps a m bound
+      → IsSpecOf texts name as_written spec → IsMachineIn texts machine spec m → IsAutomatonOf spec m.player a → Keeps a m bound
       → ((w : LassoData) → 0 < length w.cycle → IsLassoPlay m w → avoided m.player (holds_at w spec.formula 0) ≡ false)
       → IsAnswer texts (check name machine bound as_written) 0 (codes "VALID\n")
   over : (name machine : List ℕ) (bound : ℕ) (as_written : Bool) (spec : Spec) (m : MachineData) (a : AutomatonData)
-      → IsSpecOf texts name as_written spec → IsMachineIn texts machine spec m → IsAutomatonOf spec.formula m.player a → (Keeps a m bound → ⊥)
+      → IsSpecOf texts name as_written spec → IsMachineIn texts machine spec m → IsAutomatonOf spec m.player a → (Keeps a m bound → ⊥)
       → IsAnswer texts (check name machine bound as_written) 40 (codes "OVER\n")
   holds : (name lasso : List ℕ) (as_written : Bool) (spec : Spec) (w : LassoData)
       → IsSpecOf texts name as_written spec → IsLassoOf texts lasso spec w → holds_at w spec.formula 0 ≡ true
@@ -144,6 +144,6 @@ pub data IsAnswer (texts : Option Texts) : Asked → ℕ → List ℕ → Type 0
       → IsSpecOf texts name as_written spec → IsLassoOf texts lasso spec w → holds_at w spec.formula 0 ≡ false
       → IsAnswer texts (eval name lasso as_written) 40 (codes "FAILS\n")
   generated : (clients workers : ℕ) (spec : Spec) (pair : Pair) (v : Verdict)
-      → IsSpec (arbiter_text clients) false spec → IsPairOf spec.formula pair → IsVerdict pair spec.names (bounds_of (0, 1, 8)) v
+      → IsSpec (arbiter_text clients) false spec → IsPairOf spec pair → IsVerdict pair spec.names (bounds_of (0, 1, 8)) v
       → IsSatisfied spec.formula v → IsAlone pair spec.names v
       → IsAnswer texts (gen clients workers) 0 (arbiter_text clients ++ verdict_comment v)

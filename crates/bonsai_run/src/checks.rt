@@ -6,7 +6,7 @@ ghost use Rattle.ltl_form.specs.Formula.{signals_below};
 ghost use Rattle.tlsf_basic.specs.Specification.{signal_count};
 ghost use Rattle.bonsai_words.specs.Ordered.Asked.{check, eval};
 ghost use Rattle.bonsai_run.specs.Answers.{IsAnswer, IsWord};
-ghost use Rattle.bonsai_run.specs.Causes.{IsLater};
+ghost use Rattle.bonsai_run.specs.Causes.{IsCheckFault, IsEvalFault};
 ghost use Rattle.bonsai_run.specs.Texts.{IsUnder, IsSpecOf};
 
 use crate::answers::{Answer, word_answer};
@@ -26,7 +26,7 @@ pub fn check_answer(alloc: Global, spec: &Spec, text: &[u8], bound: u32) -> Resu
     requires few { signal_count spec.now.names ≤ 40 }
     requires numbered { signals_below (signal_count spec.now.names) spec.now.formula ≡ true }
     ensures answer { (texts : Option Texts) (name machine : List ℕ) (as_written : Bool) → IsSpecOf texts name as_written spec.now → IsUnder texts machine text.now → IfOk result (λ a. IsAnswer texts (check name machine bound as_written) a.status a.text.items) }
-    ensures fault { IfErr result IsLater }
+    ensures fault { IfErr result (IsCheckFault spec.now text.now) }
 {
     let machine = read_machine(alloc, text, &spec.names)?;
     let a = automaton(alloc, spec, machine.player())?;
@@ -40,7 +40,7 @@ pub fn eval_answer(alloc: Global, spec: &Spec, text: &[u8]) -> Result<Answer, Fa
     requires few { signal_count spec.now.names ≤ 40 }
     requires numbered { signals_below (signal_count spec.now.names) spec.now.formula ≡ true }
     ensures answer { (texts : Option Texts) (name lasso : List ℕ) (as_written : Bool) → IsSpecOf texts name as_written spec.now → IsUnder texts lasso text.now → IfOk result (λ a. IsAnswer texts (eval name lasso as_written) a.status a.text.items) }
-    ensures fault { IfErr result IsLater }
+    ensures fault { IfErr result (IsEvalFault spec.now text.now) }
 {
     let signals = signals_of(spec);
     let lasso = read_lasso(alloc, text, signals)?;

@@ -6,7 +6,8 @@ ghost use Rattle.ltl_form.specs.Formula.{signals_below};
 ghost use Rattle.tlsf_basic.specs.Specification.{signal_count};
 ghost use Rattle.bonsai_words.specs.Ordered.Asked.{downset};
 ghost use Rattle.bonsai_run.specs.Answers.{IsAnswer, downset_text, vector_line, vector_lines, spaced};
-ghost use Rattle.bonsai_run.specs.Causes.{IsLimit};
+ghost use Rattle.dual_game.specs.Automata.{IsLimitOf};
+ghost use Rattle.bonsai_run.specs.Causes.{ByLimit};
 ghost use Rattle.bonsai_run.specs.Texts.{IsSpecOf};
 ghost use Rattle.shelf_io.specs.Texts.{Texts};
 
@@ -34,7 +35,7 @@ pub fn downset_answer(
     requires few { signal_count spec.now.names ≤ 40 }
     requires numbered { signals_below (signal_count spec.now.names) spec.now.formula ≡ true }
     ensures answer { (texts : Option Texts) (name : List ℕ) (as_written : Bool) → IsSpecOf texts name as_written spec.now → IfOk result (λ a. IsAnswer texts (downset name player bound as_written) a.status a.text.items) }
-    ensures fault { IfErr result IsLimit }
+    ensures fault { IfErr result (ByLimit (IsLimitOf spec.now player)) }
 {
     let a = automaton(alloc, spec, player)?;
     let g = game(alloc, &a, &spec.names, player, bound)?;

@@ -4,6 +4,7 @@ ghost use Rattle.std.specs.Prelude.{◌≡◌, ◌++◌, ◌≤◌, ℕ, Option,
 ghost use Rattle.bonsai_words.specs.Ordered.Asked.{gen};
 ghost use Rattle.shelf_io.specs.Texts.{Texts};
 ghost use Rattle.bonsai_run.specs.Answers.{IsAnswer, won_comment, unknown_comment, verdict_comment};
+ghost use Rattle.bonsai_run.specs.Causes.{IsGenFault};
 ghost use Rattle.bonsai_run.specs.Faults.{IsInner};
 
 use crate::answers::{Answer, push_number, verdict_word};
@@ -28,6 +29,7 @@ pub fn generated_answer(alloc: Global, clients: u32) -> Result<Answer, Fault>
     requires few { clients ≤ 8 }
     ensures answer { IfOk result (λ a. (texts : Option Texts) (workers : ℕ) → IsAnswer texts (gen clients workers) a.status a.text.items) }
     ensures fault { IfErr result IsInner }
+    ensures cause { IfErr result (IsGenFault clients) }
 {
     let text = arbiter(alloc, clients)?;
     let spec = read_spec(alloc, &text, false)?;

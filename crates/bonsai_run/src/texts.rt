@@ -3,7 +3,7 @@
 ghost use Rattle.std.specs.Prelude.{◌≡◌, ◌<◌, ◌≤◌, length, vec_len, IfOk, IfErr, true};
 ghost use Rattle.ltl_form.specs.Formula.{signals_below};
 ghost use Rattle.tlsf_basic.specs.Specification.{signal_count};
-ghost use Rattle.bonsai_run.specs.Causes.{IsCause, IsFetchFault};
+ghost use Rattle.bonsai_run.specs.Causes.{IsUnreadable, IsFetchFault};
 ghost use Rattle.bonsai_run.specs.Faults.{Blames, named};
 ghost use Rattle.bonsai_run.specs.Texts.{IsUnder, IsSpecOf};
 
@@ -66,7 +66,7 @@ pub fn specification<H: Shelf>(
     ensures few { IfOk result (λ spec. signal_count spec.names ≤ 40) }
     ensures numbered { IfOk result (λ spec. signals_below (signal_count spec.names) spec.formula ≡ true) }
     ensures is { IfOk result (IsSpecOf (H.texts shelf.old) name.now as_written) }
-    ensures cause { IfErr result (IsCause (H.texts shelf.old) name.now other.now as_written) }
+    ensures cause { IfErr result (IsUnreadable (H.texts shelf.old) name.now as_written) }
     ensures texts_stay { H.texts shelf.new ≡ H.texts shelf.old }
     ensures blames { IfErr result (Blames (H.faults shelf.old) (H.faults shelf.new) (H.last_failed shelf.new) name.now other.now) }
     ensures later { H.faults shelf.old ≤ H.faults shelf.new }

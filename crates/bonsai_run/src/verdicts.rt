@@ -2,7 +2,7 @@
 
 ghost use Rattle.std.specs.Prelude.{◌≡◌, ◌≤◌, true, false, IfOk, IfErr};
 ghost use Rattle.dual_game.specs.declared.games.Pair.{Pair};
-ghost use Rattle.dual_game.specs.Automata.{IsPairOf};
+ghost use Rattle.dual_game.specs.Automata.{IsPairOf, IsLimitOfPair};
 ghost use Rattle.dual_game.specs.Bounds.{AreBounds};
 ghost use Rattle.dual_game.specs.Winning.{Decides, with_bound};
 ghost use Rattle.game_form.specs.Covering.{CoversLetters};
@@ -13,7 +13,7 @@ ghost use Rattle.tlsf_basic.specs.Specification.{signal_count};
 ghost use Rattle.word_core.specs.declared.names.Names.{Names};
 ghost use Rattle.word_core.specs.declared.names.Player.TheVariants.{System, Environment};
 ghost use Rattle.bonsai_run.specs.Answers.{IsVerdict};
-ghost use Rattle.bonsai_run.specs.Causes.{IsLimit};
+ghost use Rattle.bonsai_run.specs.Causes.{ByLimit};
 ghost use Rattle.bonsai_run.specs.Winners.{IsWinner, IsFound, IsFoundOfTwo};
 
 use crate::faults::Fault;
@@ -42,8 +42,8 @@ pub fn decide(alloc: Global, spec: &Spec, bounds: Bounds) -> Result<Verdict, Fau
     requires last { bounds.last ≤ 10000 }
     requires few { signal_count spec.now.names ≤ 40 }
     requires numbered { signals_below (signal_count spec.now.names) spec.now.formula ≡ true }
-    ensures verdict { IfOk result (λ v. (pair : Pair) × IsPairOf spec.now.formula pair × IsVerdict pair spec.now.names bounds v) }
-    ensures fault { IfErr result IsLimit }
+    ensures verdict { IfOk result (λ v. (pair : Pair) × IsPairOf spec.now pair × IsVerdict pair spec.now.names bounds v) }
+    ensures fault { IfErr result (ByLimit (IsLimitOfPair spec.now)) }
 {
     let pair = automata(alloc, spec)?;
     let names = &spec.names;

@@ -4,4 +4,5 @@ pub mod Counting
 pub mod Errors
 pub mod Games
 pub mod Machines
+pub mod Tableaux
 pub mod Winning

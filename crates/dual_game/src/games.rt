@@ -1,14 +1,17 @@
 //! The automata and games of a specification.
 
-ghost use Rattle.std.specs.Prelude.{◌≡◌, ℕ, ◌<◌, ◌≤◌, IfOk, true};
+ghost use Rattle.std.specs.Prelude.{◌≡◌, ℕ, ◌<◌, ◌≤◌, IfOk, IfErr, List, true};
 ghost use Rattle.word_core.specs.Lasso.{LassoData, size};
+ghost use Rattle.ltl_form.specs.declared.normals.FormError.TheVariants.{TooManyFormulas};
 ghost use Rattle.ltl_form.specs.Meaning.{holds_at, tree_holds};
 ghost use Rattle.ltl_form.specs.NodeTrees.{formula_at};
 ghost use Rattle.ltl_form.specs.Formula.{signals_below};
 ghost use Rattle.ltl_form.specs.Normal.{LiteralsBelow};
 ghost use Rattle.tlsf_basic.specs.Specification.{signal_count};
 ghost use Rattle.tableau_nba.specs.Acceptance.{AcceptsTruthOf};
-ghost use Rattle.dual_game.specs.Automata.{IsAutomatonOf, IsPairOf, avoided, avoids_truth};
+ghost use Rattle.tableau_nba.specs.Walks.Outcome.{too_wide, too_many};
+ghost use Rattle.dual_game.specs.Automata.{IsAutomatonOf, IsPairOf, IsNormalOf, IsLimitOf, IsLimitOfPair, avoided, avoids_truth, formula_count};
+ghost use Rattle.dual_game.specs.Tableaux.{IsTrimmedTableau, IsTableauLimit};
 ghost use Rattle.dual_game.specs.Games.{kind_of, IsGameOf};
 
 use crate::errors::GameError;
@@ -41,7 +44,8 @@ pub fn automata(alloc: Global, s: &Spec) -> Result<Pair, GameError>
     requires numbered { signals_below (signal_count s.now.names) s.now.formula ≡ true }
     ensures system { IfOk result (λ p. p.system.signals ≡ signal_count s.now.names) }
     ensures environment { IfOk result (λ p. p.environment.signals ≡ signal_count s.now.names) }
-    ensures pair { IfOk result (IsPairOf s.now.formula) }
+    ensures pair { IfOk result (IsPairOf s.now) }
+    ensures limit { IfErr result (IsLimitOfPair s.now) }
 {
     let negated = normal_of(alloc, s, Player::System)?;
     let positive = normal_of(alloc, s, Player::Environment)?;
@@ -56,7 +60,8 @@ pub fn automaton(alloc: Global, s: &Spec, player: Player) -> Result<Automaton, G
     requires few { signal_count s.now.names ≤ 64 }
     requires numbered { signals_below (signal_count s.now.names) s.now.formula ≡ true }
     ensures signals { IfOk result (λ a. a.signals ≡ signal_count s.now.names) }
-    ensures accepts { IfOk result (IsAutomatonOf s.now.formula player) }
+    ensures made { IfOk result (IsAutomatonOf s.now player) }
+    ensures limit { IfErr result (IsLimitOf s.now player) }
 {
     let normal = normal_of(alloc, s, player)?;
     trimmed(alloc, &normal, signals_of(&s.names))
@@ -112,6 +117,9 @@ pub fn normal_of(alloc: Global, s: &Spec, player: Player) -> Result<Normal, Form
     requires few { signal_count s.now.names ≤ 64 }
     requires numbered { signals_below (signal_count s.now.names) s.now.formula ≡ true }
     ensures literals { IfOk result (λ f. LiteralsBelow (signal_count s.now.names) f.nodes) }
+    ensures normal { IfOk result (λ f. IsNormalOf s.now player f.nodes f.root) }
+    ensures few { IfOk result (λ _. formula_count s.now player ≤ 512) }
+    ensures many { IfErr result (λ e. e ≡ TooManyFormulas → 512 < formula_count s.now player) }
     ensures meaning { (w : LassoData) → 0 < size w → IfOk result (λ f. tree_holds w (formula_at f.nodes f.root) 0 ≡ avoided player (holds_at w s.now.formula 0)) }
 {
     nnf(alloc, &s.formula, avoids_truth(player))
@@ -132,6 +140,8 @@ fn trimmed(alloc: Global, f: &Normal, signals: u32) -> Result<Automaton, GameErr
     requires literals { LiteralsBelow signals f.now.nodes }
     requires few { signals ≤ 64 }
     ensures signals { IfOk result (λ a. a.signals ≡ signals) }
+    ensures tableau { IfOk result (IsTrimmedTableau f.now.nodes f.now.root signals) }
+    ensures limit { IfErr result (IsTableauLimit f.now.nodes f.now.root signals) }
     ensures accepts { IfOk result (AcceptsTruthOf f.now.nodes f.now.root) }
 {
     let whole = tableau(alloc, f, signals)?;
