@@ -22,12 +22,12 @@ use Rattle.action_groups.specs.Rank.{IsNumbering}
 use Rattle.action_groups.specs.Listing.{with_numbers, class_from}
 use Rattle.action_groups.specs.Parts.{HasLetterParts, listed_at}
 
-option_numbered : (numbers : List ℕ) (options : List (ℕ × ℕ)) (i : ℕ) → i < length options → get_or (with_numbers numbers options) i (0, 0) ≡ (get_or numbers (pair_at options i).1 0, (pair_at options i).0)
+pub option_numbered : (numbers : List ℕ) (options : List (ℕ × ℕ)) (i : ℕ) → i < length options → get_or (with_numbers numbers options) i (0, 0) ≡ (get_or numbers (pair_at options i).1 0, (pair_at options i).0)
 option_numbered numbers [] i lt = absurd (omega arith)
 option_numbered numbers (o ∷ options) zero lt = refl
 option_numbered numbers (o ∷ options) (suc i) lt = option_numbered numbers options i (omega arith)
 
-class_numbered : (lists : List (Vec (ℕ × ℕ) Global)) (numbers : List ℕ) (order : List (ℕ × ℕ)) (c : ℕ) → c < length order → get_or (map (class_from lists numbers) order) c no_class ≡ class_from lists numbers (pair_at order c)
+pub class_numbered : (lists : List (Vec (ℕ × ℕ) Global)) (numbers : List ℕ) (order : List (ℕ × ℕ)) (c : ℕ) → c < length order → get_or (map (class_from lists numbers) order) c no_class ≡ class_from lists numbers (pair_at order c)
 class_numbered lists numbers [] c lt = absurd (omega arith)
 class_numbered lists numbers (p ∷ order) zero lt = refl
 class_numbered lists numbers (p ∷ order) (suc c) lt = class_numbered lists numbers order c (omega arith)
@@ -56,7 +56,7 @@ module _
   least_label c lt =
       let q : ℕ × ℕ = pair_at order c in
       let P : ℕ × ℕ → Type 0 = λ o. (bits : ℕ) → bits / 2 ^ 0 ≡ o.0 → label_of firsts bits ≡ o.1 in
-      All-contains P pairs q labelled.each (numbering.known c (0, 0) lt) q.0 (omega arith)
+      All-contains P pairs q labelled.each (numbering.once.each c (0, 0) lt) q.0 (omega arith)
 
   meets : (c second : ℕ) → c < length order → Meets (class_from lists labels (pair_at order c)) second
   meets c second lt =

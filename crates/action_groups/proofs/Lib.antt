@@ -1,7 +1,10 @@
 pub mod Acts
 pub mod Allowed
 pub mod Chosen
+pub mod Distinct
 pub mod Edges
+pub mod Grouped
+pub mod Grouping
 pub mod Grown
 pub mod Letters
 pub mod Lists
@@ -11,5 +14,7 @@ pub mod Pairs
 pub mod Powers
 pub mod RowNumbers
 pub mod RowSteps
+pub mod SameEffects
+pub mod Sides
 pub mod Splits
 pub mod Steps

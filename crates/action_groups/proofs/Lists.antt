@@ -15,7 +15,7 @@ use Rattle.action_groups.specs.Listing.{class_from}
 use Rattle.action_groups.specs.Lists.{items_at, KeepsLists}
 use Rattle.action_groups.proofs.Splits.{lists_self, lists_append}
 
-pair_decides : (p q : ℕ × ℕ) → Decides (eqb p.0 q.0 && eqb p.1 q.1) (p ≡ q)
+pub pair_decides : (p q : ℕ × ℕ) → Decides (eqb p.0 q.0 && eqb p.1 q.1) (p ≡ q)
 pair_decides p q = (
   λ e. (
       let parts = and_parts (eqb p.0 q.0) (eqb p.1 q.1) e in
@@ -42,7 +42,7 @@ bools_decide false true = (λ e. absurd (cc), λ e. absurd (cc))
 bools_decide true false = (λ e. absurd (cc), λ e. absurd (cc))
 bools_decide true true = (λ e. refl, λ e. refl)
 
-step_decides : (p q : ℕ × ℕ × Bool) → Decides ((eqb p.0 q.0 && eqb p.1 q.1) && beq p.2 q.2) (p ≡ q)
+pub step_decides : (p q : ℕ × ℕ × Bool) → Decides ((eqb p.0 q.0 && eqb p.1 q.1) && beq p.2 q.2) (p ≡ q)
 step_decides p q = (
   λ e. (
       let whole = and_parts (eqb p.0 q.0 && eqb p.1 q.1) (beq p.2 q.2) e in

@@ -35,6 +35,12 @@ HasPartRows inputs outputs first a p =
     (x bits q r : ℕ) → IsLetterOf inputs outputs first x bits → q < length a.states
     → number (row_at (slice_index_or p.actions.items (label_of p.letters.items bits) []) q) r ≡ edge_number (edges_at a q) x r
 
+-- valuations whose effects are one list have one action
+abbrev pub HasSameLabels : List Branch → List (Vec (ℕ × ℕ × Bool) Global) → Parts → Type 0
+HasSameLabels nodes effects p =
+    (bits others : ℕ) → items_at effects (label_of nodes bits) ≡ items_at effects (label_of nodes others)
+    → label_of p.letters.items bits ≡ label_of p.letters.items others
+
 -- whether the side that moves first has the inputs
 abbrev pub inputs_lead : Player → Kind → Bool
 inputs_lead System First = false

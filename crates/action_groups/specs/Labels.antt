@@ -1,5 +1,5 @@
 -- Labels of trees, and the pairs of valuations and labels that stand for them.
-use Rattle.std.specs.Prelude.{◌≡◌, ℕ, ◌+◌, ◌*◌, ◌/◌, ◌^◌, ◌<◌, List, length, map, slice_index_or}
+use Rattle.std.specs.Prelude.{◌≡◌, ℕ, ◌+◌, ◌*◌, ◌/◌, ◌^◌, ◌<◌, ◌≤◌, List, length, map, slice_index_or}
 use Rattle.std.specs.List.{All}
 use Rattle.word_core.specs.declared.branches.Branch.{Branch}
 use Rattle.word_core.specs.Tree.{label_at, label_of, side}
@@ -19,11 +19,16 @@ pair_at pairs i = slice_index_or pairs i (0, 0)
 abbrev pub HasNumber : List (ℕ × ℕ) → ℕ → Type 0
 HasNumber pairs n = (i : ℕ) × (i < length pairs) × ((pair_at pairs i).1 ≡ n)
 
+-- some pair has the number, with a valuation that is at most this one
+abbrev pub HasAtMost : List (ℕ × ℕ) → ℕ → ℕ → Type 0
+HasAtMost pairs n most = (i : ℕ) × (i < length pairs) × ((pair_at pairs i).1 ≡ n) × ((pair_at pairs i).0 ≤ most)
+
 -- the pairs with the value of a signal before the other signals
 abbrev pub shifted : ℕ → List (ℕ × ℕ) → List (ℕ × ℕ)
 shifted bit = map (λ p. (2 * p.0 + bit, p.1))
 
--- a tree over the signals from a place on: a pair's valuation of these has its label, and each label stands in a pair
+-- a tree over the signals from a place on: a pair's valuation of these has its label, and the label of each valuation
+-- stands in a pair with one that is at most it
 pub record IsLabelled (place : ℕ) (nodes : List Branch) (pairs : List (ℕ × ℕ)) : Type 0 where
   pub each : All (λ p. (bits : ℕ) → bits / 2 ^ place ≡ p.0 → label_of nodes bits ≡ p.1) pairs
-  pub all : (bits : ℕ) → HasNumber pairs (label_of nodes bits)
+  pub all : (bits : ℕ) → HasAtMost pairs (label_of nodes bits) (bits / 2 ^ place)

@@ -1,5 +1,6 @@
 pub mod Actions
 pub mod First
+pub mod Grouped
 pub mod Labels
 pub mod Listing
 pub mod Lists
@@ -11,5 +12,6 @@ pub mod Parts
 pub mod Rank
 pub mod Row
 pub mod Rows
+pub mod Sides
 pub mod Tests
 pub mod Way

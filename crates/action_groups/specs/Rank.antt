@@ -1,9 +1,10 @@
 -- Labels numbered by their least valuations.
 use Rattle.std.specs.Prelude.{◌≡◌, ℕ, ◌<◌, List, length, slice_index}
-use Rattle.std.specs.List.{All, Contains}
+use Rattle.std.specs.List.{All}
 use Rattle.word_core.specs.declared.branches.Branch.{Branch}
 use Rattle.word_core.specs.declared.branches.Branch.TheVariants.{Leaf, Split}
 use Rattle.action_groups.specs.Labels.{pair_at}
+use Rattle.action_groups.specs.Options.{IsOnce}
 use Rattle.action_groups.specs.Part.{ArePairs}
 use Rattle.action_groups.specs.declared.ranks.Ranked.{Ranked}
 
@@ -22,7 +23,7 @@ abbrev pub with_number : List ℕ → Branch → Branch
 with_number numbers (Leaf label) = Leaf (slice_index numbers label)
 with_number numbers (Split signal low high) = Split signal low high
 
--- the order has some of the pairs, and the number of each pair's label is a place of that label in the order
+-- the order has each label once with its least valuation, and the number of each pair's label is its place there
 pub record IsNumbering (pairs order : List (ℕ × ℕ)) (numbers : List ℕ) : Type 0 where
-  pub known : All (Contains pairs) order
+  pub once : IsOnce pairs order
   pub placed : All (λ p. (slice_index numbers p.1 < length order) × ((pair_at order (slice_index numbers p.1)).1 ≡ p.1)) pairs

@@ -1,34 +1,33 @@
 //! The valuations of the side that moves first, split until the letters are.
 
 ghost use Rattle.std.specs.Prelude.{◌≡◌, ◌<◌, ◌≤◌, ◌+◌, ◌-◌, ◌^◌, ℕ, length, vec_len, IfOk, OnOk};
-ghost use Rattle.std.specs.List.{All};
+ghost use Rattle.std.specs.List.{All, AllPairs};
 ghost use Rattle.word_core.specs.Tree.{label_of};
-ghost use Rattle.action_groups.specs.Labels.{KeepsLabels, HasNumber, IsLabelled};
+ghost use Rattle.action_groups.specs.Labels.{KeepsLabels, IsLabelled};
 ghost use Rattle.action_groups.specs.Tests.{HasEffects};
 ghost use Rattle.action_groups.specs.Lists.{items_at, KeepsLists};
 ghost use Rattle.action_groups.specs.Options.{IsOnce, HasOptions};
 ghost use Rattle.action_groups.specs.Part.{AreNodes, ArePairs};
+ghost use Rattle.action_groups.specs.Sides.{leads};
 ghost use Rattle.action_groups.specs.First.{AreOptions};
 ghost use Rattle.action_groups.specs.Way.{IsWay, AreSteps};
 
 use crate::groups::{Letters, split_rest};
 use crate::orders::Order;
-use crate::parts::{add_part, push_leaf, push_split};
+use crate::parts::{joined, lifted, push_leaf, push_split};
 use crate::ways::{Way, is_tested, restricted};
 use indexmap::IndexSet;
 use std::alloc::{AllocError, Global};
 use word_core::Branch;
 
-/// The nodes of the tree of first valuations, and the lists of options that are its labels' meanings; and the letters
-/// that were met, each with its label.
+/// The nodes of the tree of first valuations, and the lists of options that are its labels' meanings.
 #[derive(Drop)]
 pub struct Firsts {
     pub nodes: Vec<Branch>,
     pub options: IndexSet<Vec<(u64, u64)>>,
-    pub met: Vec<(u64, u64)>,
 }
 
-/// Of the pairs of each number the first.
+/// Of the pairs of each number, which stand in the order of their valuations, the first.
 fn first_of_each(
     alloc: Global,
     pairs: &[(u64, u64)],
@@ -37,6 +36,7 @@ fn first_of_each(
 ) -> Result<Vec<(u64, u64)>, AllocError>
     requires pairs { ArePairs width count pairs.now }
     requires some { 0 < length pairs.now }
+    requires sorted { AllPairs (λ p q. p.0 ≤ q.0) pairs.now }
     ensures pairs { IfOk result (λ v. ArePairs width count v.items) }
     ensures some { IfOk result (λ v. 0 < length v.items) }
     ensures once { IfOk result (λ v. IsOnce pairs.now v.items) }
@@ -55,34 +55,10 @@ fn first_of_each(
     Ok(kept)
 }
 
-/// Notes the letters of a first valuation with these options.
-fn meet_letters(
-    order: Order,
-    first: u64,
-    options: &[(u64, u64)],
-    width: u32,
-    count: usize,
-    met: &mut Vec<(u64, u64)>,
-) -> Result<(), AllocError>
-    requires options { ArePairs width count options.now }
-    requires met { ArePairs 64 count met.old.items }
-    ensures met { ArePairs 64 count met.new.items }
-    ensures grows { OnOk result (length met.new.items ≡ length met.old.items + length options.now) }
-    ensures old { OnOk result ((n : ℕ) → HasNumber met.old.items n → HasNumber met.new.items n) }
-    ensures noted { OnOk result ((n : ℕ) → HasNumber options.now n → HasNumber met.new.items n) }
-{
-    for (value, label) in options {
-        met.push((order.letter(first, *value), *label))?;
-    }
-    Ok(())
-}
-
 /// Puts a leaf for the first valuations with these options. Its label is given back.
 fn put_options(
     alloc: Global,
     mut pairs: Vec<(u64, u64)>,
-    order: Order,
-    first: u64,
     width: u32,
     second: u32,
     count: usize,
@@ -93,152 +69,81 @@ fn put_options(
     requires some { 0 < length pairs.items }
     requires nodes { AreNodes width (length firsts.old.options.keys) firsts.old.nodes.items }
     requires options { AreOptions second count firsts.old.options.keys }
-    requires met { ArePairs 64 count firsts.old.met.items }
     ensures nodes { OnOk result (AreNodes width (length firsts.new.options.keys) firsts.new.nodes.items) }
     ensures options { OnOk result (AreOptions second count firsts.new.options.keys) }
-    ensures met { OnOk result (ArePairs 64 count firsts.new.met.items) }
     ensures more { OnOk result (length firsts.old.options.keys ≤ length firsts.new.options.keys) }
     ensures grows { OnOk result (length firsts.old.nodes.items < length firsts.new.nodes.items) }
-    ensures some { OnOk result (0 < length firsts.new.met.items) }
     ensures label { IfOk result (λ l. l < length firsts.new.options.keys) }
     ensures kept { OnOk result (KeepsLabels firsts.old.nodes.items firsts.new.nodes.items) }
     ensures lists { OnOk result (KeepsLists firsts.old.options.keys firsts.new.options.keys) }
     ensures leaf { IfOk result (λ l. (bits : ℕ) → label_of firsts.new.nodes.items bits ≡ l) }
     ensures once { IfOk result (λ l. IsOnce pairs.items (items_at firsts.new.options.keys l)) }
-    ensures old_met { OnOk result ((n : ℕ) → HasNumber firsts.old.met.items n → HasNumber firsts.new.met.items n) }
-    ensures all_met { OnOk result ((n : ℕ) → HasNumber pairs.items n → HasNumber firsts.new.met.items n) }
 {
     pairs.sort()?;
     let options = first_of_each(alloc, &pairs, second, count)?;
-    meet_letters(order, first, &options, second, count, &mut firsts.met)?;
     let (label, _) = firsts.options.insert_full(options)?;
     push_leaf(&mut firsts.nodes, label as u64, width, firsts.options.len())?;
     Ok(label as u64)
 }
 
-/// Splits on the first mover's signals from a place of the order on, of which there are `width`; those before it are as in `first`.
-/// The last node is the tree of these edges; the pairs have each of its labels, with valuations of these signals that
-/// have it, the least among them.
+/// Splits on the first mover's signals from a place of the order on. The last node is the tree of these edges; the
+/// pairs have each of its labels, with valuations of these signals that have it, the least among them.
 #[tactic(auto, using(crate::proofs::Pairs::pairs_weaker, crate::proofs::Pairs::pairs_at, crate::proofs::Pairs::options_weaker))]
 pub fn split_first(
     alloc: Global,
     ways: &[Way],
     count: usize,
     order: Order,
-    width: u32,
     place: u32,
-    first: u64,
     letters: &mut Letters,
     firsts: &mut Firsts,
 ) -> Result<Vec<(u64, u64)>, AllocError>
-    requires place { place ≤ width }
-    requires width { width ≤ order.inputs + order.outputs }
+    requires place { place ≤ leads order }
     requires ways { All (IsWay count) ways.now }
     requires letter_nodes { AreNodes (order.inputs + order.outputs) (length letters.old.effects.keys) letters.old.nodes.items }
     requires effects { All (λ e. AreSteps count e.items) letters.old.effects.keys }
-    requires nodes { AreNodes width (length firsts.old.options.keys) firsts.old.nodes.items }
-    requires options { AreOptions (order.inputs + order.outputs - width) (length letters.old.effects.keys) firsts.old.options.keys }
-    requires met { ArePairs 64 (length letters.old.effects.keys) firsts.old.met.items }
+    requires nodes { AreNodes (leads order) (length firsts.old.options.keys) firsts.old.nodes.items }
+    requires options { AreOptions (order.inputs + order.outputs - leads order) (length letters.old.effects.keys) firsts.old.options.keys }
     ensures letter_nodes { OnOk result (AreNodes (order.inputs + order.outputs) (length letters.new.effects.keys) letters.new.nodes.items) }
     ensures effects { OnOk result (All (λ e. AreSteps count e.items) letters.new.effects.keys) }
     ensures letters_grow { OnOk result (length letters.old.nodes.items < length letters.new.nodes.items) }
     ensures more_effects { OnOk result (length letters.old.effects.keys ≤ length letters.new.effects.keys) }
-    ensures nodes { OnOk result (AreNodes width (length firsts.new.options.keys) firsts.new.nodes.items) }
-    ensures options { OnOk result (AreOptions (order.inputs + order.outputs - width) (length letters.new.effects.keys) firsts.new.options.keys) }
-    ensures met { OnOk result (ArePairs 64 (length letters.new.effects.keys) firsts.new.met.items) }
+    ensures nodes { OnOk result (AreNodes (leads order) (length firsts.new.options.keys) firsts.new.nodes.items) }
+    ensures options { OnOk result (AreOptions (order.inputs + order.outputs - leads order) (length letters.new.effects.keys) firsts.new.options.keys) }
     ensures more { OnOk result (length firsts.old.options.keys ≤ length firsts.new.options.keys) }
     ensures grows { OnOk result (length firsts.old.nodes.items < length firsts.new.nodes.items) }
-    ensures met_some { OnOk result (0 < length firsts.new.met.items) }
-    ensures pairs { IfOk result (λ v. ArePairs (width - place) (length firsts.new.options.keys) v.items) }
+    ensures pairs { IfOk result (λ v. ArePairs (leads order - place) (length firsts.new.options.keys) v.items) }
     ensures some { IfOk result (λ v. 0 < length v.items) }
     ensures letters_kept { OnOk result (KeepsLabels letters.old.nodes.items letters.new.nodes.items) }
     ensures kept { OnOk result (KeepsLabels firsts.old.nodes.items firsts.new.nodes.items) }
     ensures lists { OnOk result (KeepsLists firsts.old.options.keys firsts.new.options.keys) }
     ensures effect_lists { OnOk result (KeepsLists letters.old.effects.keys letters.new.effects.keys) }
     ensures exact { OnOk result (HasEffects order place letters.new.nodes.items letters.new.effects.keys ways.now) }
-    ensures old_met { OnOk result ((n : ℕ) → HasNumber firsts.old.met.items n → HasNumber firsts.new.met.items n) }
-    ensures all_met { OnOk result ((bits : ℕ) → HasNumber firsts.new.met.items (label_of letters.new.nodes.items bits)) }
-    ensures chosen { OnOk result (HasOptions width letters.new.nodes.items firsts.new.nodes.items firsts.new.options.keys) }
+    ensures chosen { OnOk result (HasOptions (leads order) letters.new.nodes.items firsts.new.nodes.items firsts.new.options.keys) }
     ensures labelled { IfOk result (λ v. IsLabelled place firsts.new.nodes.items v.items) }
 {
     let whole = order.width();
+    let width = order.leads();
     if place >= width {
         let rest = split_rest(alloc, ways, count, order, place, letters)?;
-        let label = put_options(
-            alloc,
-            rest,
-            order,
-            first,
-            width,
-            whole - width,
-            letters.effects.len(),
-            firsts,
-        )?;
+        let actions = letters.effects.len();
+        let label = put_options(alloc, rest, width, whole - width, actions, firsts)?;
         return Ok(vec![in alloc; (0, label)]?);
     }
     let signal = order.signal(place);
-    let mut pairs = Vec::new(alloc);
+    let left = width - place - 1;
     if !is_tested(ways, signal) {
-        let rest = split_first(
-            alloc,
-            ways,
-            count,
-            order,
-            width,
-            place + 1,
-            first,
-            letters,
-            firsts,
-        )?;
-        add_part(
-            &mut pairs,
-            &rest,
-            0,
-            width - place - 1,
-            firsts.options.len(),
-        )?;
-        return Ok(pairs);
+        let rest = split_first(alloc, ways, count, order, place + 1, letters, firsts)?;
+        return Ok(lifted(alloc, &rest, left, firsts.options.len())?);
     }
     let unset = restricted(alloc, ways, signal, 0, count)?;
-    let low = split_first(
-        alloc,
-        &unset,
-        count,
-        order,
-        width,
-        place + 1,
-        first,
-        letters,
-        firsts,
-    )?;
-    let (letter_at, at) = (letters.nodes.len() - 1, firsts.nodes.len() - 1);
+    let low = split_first(alloc, &unset, count, order, place + 1, letters, firsts)?;
+    let letter_at = letters.nodes.len() - 1;
+    let at = firsts.nodes.len() - 1;
     let set = restricted(alloc, ways, signal, 1, count)?;
-    let high = split_first(
-        alloc,
-        &set,
-        count,
-        order,
-        width,
-        place + 1,
-        first | 1 << place,
-        letters,
-        firsts,
-    )?;
-    push_split(
-        &mut letters.nodes,
-        place,
-        letter_at,
-        whole,
-        letters.effects.len(),
-    )?;
+    let high = split_first(alloc, &set, count, order, place + 1, letters, firsts)?;
+    let actions = letters.effects.len();
+    push_split(&mut letters.nodes, place, letter_at, whole, actions)?;
     push_split(&mut firsts.nodes, place, at, width, firsts.options.len())?;
-    add_part(&mut pairs, &low, 0, width - place - 1, firsts.options.len())?;
-    add_part(
-        &mut pairs,
-        &high,
-        1,
-        width - place - 1,
-        firsts.options.len(),
-    )?;
-    Ok(pairs)
+    Ok(joined(alloc, &low, &high, left, firsts.options.len())?)
 }

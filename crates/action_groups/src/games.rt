@@ -9,19 +9,21 @@ ghost use Rattle.action_groups.specs.Row.{AreRows};
 ghost use Rattle.action_groups.specs.Way.{AreSteps};
 ghost use Rattle.std.specs.Prelude.{map};
 ghost use Rattle.word_core.specs.Tree.{label_of};
-ghost use Rattle.action_groups.specs.Labels.{HasNumber, IsLabelled};
-ghost use Rattle.action_groups.specs.Actions.{AreActionsOf, HasEffectRows, HasPartRows, inputs_lead};
+ghost use Rattle.action_groups.specs.Labels.{IsLabelled};
+ghost use Rattle.action_groups.specs.Actions.{AreActionsOf, HasEffectRows, HasPartRows, HasSameLabels, inputs_lead};
+ghost use Rattle.action_groups.specs.Grouped.{IsGroupedGame};
+ghost use Rattle.action_groups.specs.Sides.{leads};
 ghost use Rattle.action_groups.specs.Rows.{HasRows};
 ghost use Rattle.action_groups.specs.Listing.{IsListedClass, class_from, with_numbers};
 ghost use Rattle.action_groups.specs.Options.{HasOptions};
-ghost use Rattle.action_groups.specs.Parts.{AreParts, HasLetterParts};
+ghost use Rattle.action_groups.specs.Parts.{AreParts, HasLetterParts, HasSameActions, AreNumbered};
 ghost use Rattle.game_form.specs.Covering.{CoversLetters};
 ghost use Rattle.game_form.specs.Letters.{HasLetters};
-ghost use Rattle.game_form.specs.Game.{of_first, lanes};
-ghost use Rattle.word_core.specs.Machine.{own_width, other_width};
+ghost use Rattle.game_form.specs.Game.{lanes};
 
 use crate::firsts::{Firsts, split_first};
 use crate::groups::Letters;
+use crate::least_letters::met_letters;
 use crate::orders::Order;
 use crate::ranks::{Ranked, rank, relabelled};
 use crate::rows::action_of;
@@ -30,19 +32,6 @@ use game_form::{Action, Class, Game};
 use indexmap::IndexSet;
 use std::alloc::{AllocError, Global};
 use word_core::{Automaton, Branch, Kind, Player};
-
-/// The number of signals of the side that moves first.
-fn first_width(player: Player, kind: Kind, inputs: u32, outputs: u32) -> u32
-    ensures value { result ≡ of_first kind (own_width player inputs outputs) (other_width player inputs outputs) }
-    ensures within { result ≤ inputs + outputs }
-{
-    match (player, kind) {
-        (Player::System, Kind::Second) => inputs,
-        (Player::Environment, Kind::First) => inputs,
-        (Player::System, Kind::First) => outputs,
-        (Player::Environment, Kind::Second) => outputs,
-    }
-}
 
 /// Whether the side that moves first chooses the inputs.
 fn has_inputs_first(player: Player, kind: Kind) -> bool
@@ -58,8 +47,9 @@ fn has_inputs_first(player: Player, kind: Kind) -> bool
 
 /// The game of an automaton for a player of this kind, with the bound `k`, from 0 to 10,000.
 ///
-/// The automaton's signals, the inputs and the outputs, are at most 40.
-
+/// The automaton's signals, the inputs and the outputs, are at most 40. Letters between whose states the same edges lead
+/// have one action, and valuations of the side that moves first that have the same options one class. Both are numbered
+/// by what has them first.
 pub fn make_game(
     alloc: Global,
     a: &Automaton,
@@ -83,14 +73,14 @@ pub fn make_game(
     ensures letters { IfOk result HasLetters }
     ensures covers { IfOk result CoversLetters }
     ensures rows { IfOk result (HasRows a.now) }
+    ensures grouped { IfOk result (IsGroupedGame a.now player kind inputs outputs k) }
 {
-    let width = first_width(player, kind, inputs, outputs);
     let order = Order {
         inputs,
         outputs,
         inputs_first: has_inputs_first(player, kind),
     };
-    let parts = parts_of(alloc, a, order, width)?;
+    let parts = parts_of(alloc, a, order)?;
     Ok(Game::make(
         player,
         kind,
@@ -114,13 +104,14 @@ pub struct Parts {
     pub firsts: Vec<Branch>,
 }
 
-/// The actions and classes of the letters, and their trees; `width` signals are the first side's.
-fn parts_of(alloc: Global, a: &Automaton, order: Order, width: u32) -> Result<Parts, AllocError>
-    requires width { width ≤ order.inputs + order.outputs }
+/// The actions and classes of the letters, and their trees.
+fn parts_of(alloc: Global, a: &Automaton, order: Order) -> Result<Parts, AllocError>
     requires signals { a.now.signals ≡ order.inputs + order.outputs }
     ensures rows { IfOk result (HasPartRows order.inputs order.outputs order.inputs_first a.now) }
-    ensures parts { IfOk result (AreParts (length a.now.states) (order.inputs + order.outputs) width) }
-    ensures letters { IfOk result (HasLetterParts width) }
+    ensures parts { IfOk result (AreParts (length a.now.states) (order.inputs + order.outputs) (leads order)) }
+    ensures letters { IfOk result (HasLetterParts (leads order)) }
+    ensures same { IfOk result (HasSameActions order.inputs order.outputs order.inputs_first a.now) }
+    ensures numbered { IfOk result (AreNumbered order.inputs order.outputs order.inputs_first) }
 {
     let count = a.states().len();
     let mut letters = Letters {
@@ -130,21 +121,10 @@ fn parts_of(alloc: Global, a: &Automaton, order: Order, width: u32) -> Result<Pa
     let mut firsts = Firsts {
         nodes: Vec::new(alloc),
         options: IndexSet::new(alloc),
-        met: Vec::new(alloc),
     };
     let ways = ways_of(alloc, a)?;
-    let pairs = split_first(
-        alloc,
-        &ways,
-        count,
-        order,
-        width,
-        0,
-        0,
-        &mut letters,
-        &mut firsts,
-    )?;
-    numbered(alloc, letters, firsts, pairs, order, width, count)
+    let pairs = split_first(alloc, &ways, count, order, 0, &mut letters, &mut firsts)?;
+    numbered(alloc, letters, firsts, pairs, order, count)
 }
 
 /// The parts with actions and classes in order.
@@ -154,54 +134,39 @@ fn numbered(
     firsts: Firsts,
     pairs: Vec<(u64, u64)>,
     order: Order,
-    width: u32,
     count: usize,
 ) -> Result<Parts, AllocError>
-    requires width { width ≤ order.inputs + order.outputs }
     requires narrow { count < 2 ^ 32 }
     requires letter_nodes { AreNodes (order.inputs + order.outputs) (length letters.effects.keys) letters.nodes.items }
     requires some_letter { 0 < length letters.nodes.items }
     requires effects { All (λ e. AreSteps count e.items) letters.effects.keys }
-    requires nodes { AreNodes width (length firsts.options.keys) firsts.nodes.items }
+    requires nodes { AreNodes (leads order) (length firsts.options.keys) firsts.nodes.items }
     requires some_first { 0 < length firsts.nodes.items }
-    requires options { AreOptions (order.inputs + order.outputs - width) (length letters.effects.keys) firsts.options.keys }
-    requires met { ArePairs 64 (length letters.effects.keys) firsts.met.items }
-    requires some_met { 0 < length firsts.met.items }
-    requires pairs { ArePairs width (length firsts.options.keys) pairs.items }
+    requires options { AreOptions (order.inputs + order.outputs - leads order) (length letters.effects.keys) firsts.options.keys }
+    requires pairs { ArePairs (leads order) (length firsts.options.keys) pairs.items }
     requires some { 0 < length pairs.items }
     requires labelled { IsLabelled 0 firsts.nodes.items pairs.items }
-    requires chosen { HasOptions width letters.nodes.items firsts.nodes.items firsts.options.keys }
-    requires all_met { (bits : ℕ) → HasNumber firsts.met.items (label_of letters.nodes.items bits) }
+    requires chosen { HasOptions (leads order) letters.nodes.items firsts.nodes.items firsts.options.keys }
     ensures rows { IfOk result (HasEffectRows count letters.nodes.items letters.effects.keys) }
-    ensures parts { IfOk result (AreParts count (order.inputs + order.outputs) width) }
-    ensures letters { IfOk result (HasLetterParts width) }
+    ensures parts { IfOk result (AreParts count (order.inputs + order.outputs) (leads order)) }
+    ensures letters { IfOk result (HasLetterParts (leads order)) }
+    ensures same { IfOk result (HasSameLabels letters.nodes.items letters.effects.keys) }
+    ensures numbered { IfOk result (AreNumbered order.inputs order.outputs order.inputs_first) }
 {
-    let Firsts {
-        nodes,
-        options,
-        met,
-    } = firsts;
+    let Firsts { nodes, options } = firsts;
     let whole = order.width();
-    let labels = rank(alloc, met, 64, letters.effects.len())?;
-    let classes = rank(alloc, pairs, width, options.len())?;
+    let width = order.leads();
+    let effects = letters.effects.len();
+    let lists = options.len();
+    let classes = rank(alloc, pairs, width, lists)?;
+    let met = met_letters(alloc, order, &classes.order, &options, effects)?;
+    let labels = rank(alloc, met, 64, effects)?;
+    let second = whole - width;
+    let last = labels.order.len();
     Ok(Parts {
         actions: actions(alloc, &letters, &labels, count)?,
-        classes: class_list(
-            alloc,
-            &options,
-            &classes,
-            &labels,
-            width,
-            whole - width,
-            letters.effects.len(),
-        )?,
-        letters: relabelled(
-            alloc,
-            &letters.nodes,
-            &labels.numbers,
-            whole,
-            labels.order.len(),
-        )?,
+        classes: class_list(alloc, &options, &classes, &labels, width, second, effects)?,
+        letters: relabelled(alloc, &letters.nodes, &labels.numbers, whole, last)?,
         firsts: relabelled(alloc, &nodes, &classes.numbers, width, classes.order.len())?,
     })
 }

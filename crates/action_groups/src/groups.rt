@@ -12,7 +12,7 @@ ghost use Rattle.action_groups.specs.Part.{AreNodes, ArePairs};
 ghost use Rattle.action_groups.specs.Way.{IsWay, AreSteps};
 
 use crate::orders::Order;
-use crate::parts::{add_part, push_leaf, push_split};
+use crate::parts::{joined, lifted, push_leaf, push_split};
 use crate::ways::{Way, effect, is_tested, restricted};
 use indexmap::IndexSet;
 use std::alloc::{AllocError, Global};
@@ -92,17 +92,10 @@ pub fn split_rest(
         return Ok(vec![in alloc; (0, label)]?);
     }
     let signal = order.signal(place);
-    let mut pairs = Vec::new(alloc);
+    let left = width - place - 1;
     if !is_tested(ways, signal) {
         let rest = split_rest(alloc, ways, count, order, place + 1, letters)?;
-        add_part(
-            &mut pairs,
-            &rest,
-            0,
-            width - place - 1,
-            letters.effects.len(),
-        )?;
-        return Ok(pairs);
+        return Ok(lifted(alloc, &rest, left, letters.effects.len())?);
     }
     let unset = restricted(alloc, ways, signal, 0, count)?;
     let low = split_rest(alloc, &unset, count, order, place + 1, letters)?;
@@ -110,19 +103,5 @@ pub fn split_rest(
     let set = restricted(alloc, ways, signal, 1, count)?;
     let high = split_rest(alloc, &set, count, order, place + 1, letters)?;
     push_split(&mut letters.nodes, place, at, width, letters.effects.len())?;
-    add_part(
-        &mut pairs,
-        &low,
-        0,
-        width - place - 1,
-        letters.effects.len(),
-    )?;
-    add_part(
-        &mut pairs,
-        &high,
-        1,
-        width - place - 1,
-        letters.effects.len(),
-    )?;
-    Ok(pairs)
+    Ok(joined(alloc, &low, &high, left, letters.effects.len())?)
 }

@@ -4,6 +4,7 @@
 mod firsts;
 mod games;
 mod groups;
+mod least_letters;
 mod orders;
 mod parts;
 mod ranks;

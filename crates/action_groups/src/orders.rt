@@ -12,6 +12,7 @@ pub struct Order {
 }
 
 impl Order {
+    ghost use Rattle.action_groups.specs.Sides.{leads, follows, letter_number};
     ghost use Rattle.action_groups.specs.Tests.{signal_of};
 
     /// The number of signals.
@@ -20,6 +21,19 @@ impl Order {
         ensures narrow { result ≤ 40 }
     {
         self.inputs + self.outputs
+    }
+
+    /// The number of signals of the side that moves first.
+    pub fn leads(self) -> u32
+        ensures value { result ≡ leads self }
+        ensures within { result ≤ self.inputs + self.outputs }
+        ensures rest { result + follows self ≡ self.inputs + self.outputs }
+    {
+        if self.inputs_first {
+            self.inputs
+        } else {
+            self.outputs
+        }
     }
 
     /// The signal of a letter that a tree tests at this place.
@@ -37,9 +51,13 @@ impl Order {
         }
     }
 
-    /// The letter of two parts, that of the side that moves first and that of the other.
+    /// The letter of a valuation of the side that moves first and one of the other.
+    #[tactic(auto, using(crate::proofs::Sides::letter_whole))]
     pub fn letter(self, first: u64, second: u64) -> u64
-        ensures { result < 2 ^ 64 }
+        requires first { first < 2 ^ leads self }
+        requires second { second < 2 ^ follows self }
+        ensures value { result ≡ letter_number self.inputs self.inputs_first first second }
+        ensures range { result < 2 ^ 64 }
     {
         if self.inputs_first {
             first.wrapping_add(second.wrapping_shl(self.inputs))

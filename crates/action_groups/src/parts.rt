@@ -77,3 +77,42 @@ pub fn add_part(
     }
     Ok(())
 }
+
+/// The pairs of a tree that doesn't test a signal, with the value 0 of the signal before the `rest` other signals.
+pub fn lifted(
+    alloc: Global,
+    part: &[(u64, u64)],
+    rest: u32,
+    count: usize,
+) -> Result<Vec<(u64, u64)>, AllocError>
+    requires rest { rest < 40 }
+    requires part { ArePairs rest count part.now }
+    ensures pairs { IfOk result (λ v. ArePairs (rest + 1) count v.items) }
+    ensures len { IfOk result (λ v. length v.items ≡ length part.now) }
+    ensures value { IfOk result (λ v. v.items ≡ shifted 0 part.now) }
+{
+    let mut pairs = Vec::with_capacity(alloc, part.len())?;
+    add_part(&mut pairs, part, 0, rest, count)?;
+    Ok(pairs)
+}
+
+/// The pairs of two parts, with the values 0 and 1 of the signal that chooses between them.
+pub fn joined(
+    alloc: Global,
+    low: &[(u64, u64)],
+    high: &[(u64, u64)],
+    rest: u32,
+    count: usize,
+) -> Result<Vec<(u64, u64)>, AllocError>
+    requires rest { rest < 40 }
+    requires low { ArePairs rest count low.now }
+    requires high { ArePairs rest count high.now }
+    ensures pairs { IfOk result (λ v. ArePairs (rest + 1) count v.items) }
+    ensures len { IfOk result (λ v. length v.items ≡ length low.now + length high.now) }
+    ensures value { IfOk result (λ v. v.items ≡ shifted 0 low.now ++ shifted 1 high.now) }
+{
+    let mut pairs = Vec::new(alloc);
+    add_part(&mut pairs, low, 0, rest, count)?;
+    add_part(&mut pairs, high, 1, rest, count)?;
+    Ok(pairs)
+}

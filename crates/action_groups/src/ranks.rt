@@ -1,7 +1,7 @@
 //! Labels numbered by their least valuations.
 
 ghost use Rattle.std.specs.Prelude.{◌≡◌, ◌<◌, ◌≤◌, ◌+◌, ◌^◌, ℕ, length, vec_len, IfOk, OnOk};
-ghost use Rattle.std.specs.List.{All};
+ghost use Rattle.std.specs.List.{All, AllPairs};
 ghost use Rattle.action_groups.specs.Part.{AreNodes, ArePairs};
 ghost use Rattle.std.specs.Prelude.{slice_index};
 ghost use Rattle.word_core.specs.Tree.{label_of};
@@ -42,6 +42,7 @@ fn rank_sorted(
 ) -> Result<Ranked, AllocError>
     requires pairs { ArePairs width count pairs.now }
     requires some { 0 < length pairs.now }
+    requires sorted { AllPairs (λ p q. p.0 ≤ q.0) pairs.now }
     ensures ranked { IfOk result (IsRanked width count) }
     ensures numbering { IfOk result (λ r. IsNumbering pairs.now r.order.items r.numbers.items) }
 {

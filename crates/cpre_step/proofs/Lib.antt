@@ -1,1 +1,2 @@
+pub mod ByValuations
 pub mod Left

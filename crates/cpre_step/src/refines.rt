@@ -6,6 +6,9 @@ ghost use Rattle.counter_vec.specs.Counters.{at_or_below};
 ghost use Rattle.game_form.specs.Vector.{IsVector};
 ghost use Rattle.cpre_step.specs.Refinement.{AreVectors, answers};
 ghost use Rattle.cpre_step.specs.Outcome.{Refines};
+ghost use Rattle.cpre_step.specs.Valuations.{RefinesByValuations};
+ghost use Rattle.game_form.specs.Covering.{CoversLetters};
+ghost use Rattle.game_form.specs.Letters.{HasLetters};
 
 use crate::shrinks::{shrunk_first, shrunk_second};
 use antichain_list::{Downset, ListDownset};
@@ -23,7 +26,26 @@ pub enum Refined {
 
 /// Kept exactly where `f` is in the predecessor of `d`. Else Shrunk has, ascending, exactly the maximal
 /// vectors at or below `f` that are in it.
+///
+/// By classes and options this is so for every game, by single valuations for those whose classes and
+/// options are those of their letters.
 pub fn pre_below<D: Downset<Counters>>(
+    alloc: Global,
+    g: &Game,
+    f: &Counters,
+    d: &D,
+) -> Result<Refined, AllocError>
+    requires vector { IsVector g.now f.now }
+    requires entries { AreVectors g.now (D.entries d.now) }
+    ensures options { IfOk result (λ r. Refines g.now (D.entries d.now) f.now r) }
+    ensures valuations { HasLetters g.now → CoversLetters g.now → IfOk result (λ r. RefinesByValuations g.now (D.entries d.now) f.now r) }
+{
+    g.known();
+    by_options(alloc, g, f, d)
+}
+
+/// The same by classes and options.
+fn by_options<D: Downset<Counters>>(
     alloc: Global,
     g: &Game,
     f: &Counters,
@@ -40,6 +62,7 @@ pub fn pre_below<D: Downset<Counters>>(
     Ok(Refined::Shrunk(left.into_entries()))
 }
 
+/// The set of the vectors at or below `f` that are in the predecessor of `d`.
 fn left_below<D: Downset<Counters>>(
     alloc: Global,
     g: &Game,

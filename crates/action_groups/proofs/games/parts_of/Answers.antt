@@ -1,11 +1,18 @@
-use Rattle.std.proofs.Common.{List, length, subst}
+use Rattle.std.proofs.Common.{ℕ, ◌≤◌, ◌<◌, ◌+◌, Bool, List, length, subst, arith}
+use Rattle.std.specs.Prelude.{Vec}
+use Rattle.std.specs.List.{All}
+use Rattle.std.specs.declared.alloc.Global.{Global}
 use Rattle.std.proofs.lemmas.Result.{IfOk-weaker}
 use Rattle.word_core.specs.declared.automata.Edge.{Edge}
 use Rattle.action_groups.specs.declared.games.Parts.{Parts}
 use Rattle.action_groups.specs.declared.ways.Way.{Way}
-use Rattle.action_groups.specs.Actions.{HasEffectRows, HasPartRows}
+use Rattle.action_groups.specs.Actions.{HasEffectRows, HasPartRows, HasSameLabels}
 use Rattle.action_groups.specs.Tests.{HasEffects}
+use Rattle.action_groups.specs.Parts.{HasSameActions}
+use Rattle.action_groups.specs.Way.{AreSteps}
 use Rattle.action_groups.proofs.Acts.{part_rows}
+use Rattle.action_groups.proofs.Grown.{label_below}
+use Rattle.action_groups.proofs.SameEffects.{same_actions}
 use Rattle.action_groups.proofs.games.parts_of.Goals as goal
 
 pub returns-clause-rows : goal.returns-clause-rows
@@ -20,3 +27,18 @@ returns-clause-rows c =
     part_rows c.args.order c.args.a.now nodes effects ways p c.requires.signals c.in_ok-ways.ensures.exact exact
     (subst (λ (l : List (List Edge)). HasEffectRows (length l) nodes effects p) c.states-count.ensures.value h) in
     IfOk-weaker _ P Q step c.numbered.ensures.rows
+
+pub returns-clause-same : goal.returns-clause-same
+returns-clause-same c =
+    let order = c.args.order in
+    let nodes = c.split_first.new.letters.nodes.items in
+    let effects = c.split_first.new.letters.effects.keys in
+    let ways = c.in_ok-ways.ways.items in
+    let exact : HasEffects order 0 nodes effects ways = subst (λ (l : List Way). HasEffects order 0 nodes effects l) c.deref.ensures.value c.in_ok-pairs.ensures.exact in
+    let steps : All (λ (e : Vec (ℕ × ℕ × Bool) Global). AreSteps (length c.args.a.now.states) e.items) effects =
+    subst (λ (l : List (List Edge)). All (λ (e : Vec (ℕ × ℕ × Bool) Global). AreSteps (length l) e.items) effects) c.states-count.ensures.value c.in_ok-pairs.ensures.effects in
+    let wide : order.inputs + order.outputs ≤ 64 = omega (arith, order.narrow) in
+    let some : 0 < length nodes = omega (arith, c.in_ok-pairs.ensures.letters_grow) in
+    let below = label_below (order.inputs + order.outputs) (length effects) nodes wide c.in_ok-pairs.ensures.letter_nodes some in
+    IfOk-weaker _ (HasSameLabels nodes effects) (HasSameActions order.inputs order.outputs order.inputs_first c.args.a.now)
+    (same_actions order c.args.a.now nodes effects ways c.requires.signals c.in_ok-ways.ensures.exact exact steps below) c.numbered.ensures.same

@@ -1,17 +1,18 @@
-use Rattle.std.proofs.Common.{◌≡◌, ◌<◌, ◌≤◌, ◌+◌, ◌-◌, ◌∙◌, false, length, refl, ap, subst, arith}
+use Rattle.std.proofs.Common.{◌≡◌, ℕ, ◌<◌, ◌≤◌, ◌+◌, ◌-◌, ◌++◌, ◌∙◌, List, false, length, refl, ap, subst, arith}
 use Rattle.std.proofs.lemmas.Grind.{common_steps}
 use Rattle.std.specs.Int.{bit_at}
 use Rattle.std.specs.List.{All, filter}
 use Rattle.action_groups.specs.Tests.{allows, signal_of}
 use Rattle.action_groups.proofs.Allowed.{leaf_effects, rest_effects, split_effects}
 use Rattle.action_groups.proofs.Grown.{split_of, label_below}
-use Rattle.action_groups.proofs.Splits.{rest_labelled, split_labelled, pairs_joined, pairs_alone}
+use Rattle.action_groups.proofs.Splits.{rest_labelled, split_labelled}
+use Rattle.action_groups.specs.Labels.{shifted}
 use Rattle.action_groups.proofs.groups.+split_rest.Goals as goal
 
 pub returns-then-not-is_tested-clause-labelled : goal.returns-then-not-is_tested-clause-labelled
 returns-then-not-is_tested-clause-labelled t c =
-    rest_labelled c.args.place (c.args.place + 1) c.split_rest.new.letters.nodes.items c.in_ok-rest.rest.items c.add_part.new.pairs.items refl
-    (pairs_alone c.new-pairs.result.items c.add_part.new.pairs.items c.deref.result.now c.in_ok-rest.rest.items c.new-pairs.ensures.items c.deref.ensures.value c.in_ok-add_part.ensures.value)
+    rest_labelled c.args.place (c.args.place + 1) c.split_rest.new.letters.nodes.items c.in_ok-rest.rest.items c.in_ok-lifted.field-0.items refl
+    (c.in_ok-lifted.ensures.value ∙ ap (shifted 0) c.deref.ensures.value)
     c.in_ok-rest.ensures.labelled
 
 pub returns-clause-labelled : goal.returns-clause-labelled
@@ -22,9 +23,11 @@ returns-clause-labelled t c =
     let some : 0 < length low = omega (arith, c.in_ok-low.ensures.grows) in
     let size : c.len-at.result ≡ length low = grind (arith, common_steps) in
     let split = split_of c.args.place (c.len-at.result - 1) low high now some (ap (λ n. n - 1) size) c.in_ok-high.ensures.kept c.in_ok-push_split.ensures.split in
-    let pairs = pairs_joined c.new-pairs.result.items c.add_part-2.new.pairs.items c.add_part-3.new.pairs.items c.deref-4.result.now c.in_ok-low.low.items c.deref-5.result.now c.in_ok-high.high.items
-    c.new-pairs.ensures.items c.deref-4.ensures.value c.deref-5.ensures.value c.in_ok-add_part-2.ensures.value c.in_ok-add_part-3.ensures.value in
-    split_labelled c.args.place (c.args.place + 1) low high now c.in_ok-low.low.items c.in_ok-high.high.items c.add_part-3.new.pairs.items refl split pairs c.in_ok-low.ensures.labelled c.in_ok-high.ensures.labelled
+    let pairs : c.in_ok-joined.field-0.items ≡ shifted 0 c.in_ok-low.low.items ++ shifted 1 c.in_ok-high.high.items =
+    c.in_ok-joined.ensures.value
+    ∙ ap (λ (l : List (ℕ × ℕ)). shifted 0 l ++ shifted 1 c.deref-5.result.now) c.deref-4.ensures.value
+    ∙ ap (λ (l : List (ℕ × ℕ)). shifted 0 c.in_ok-low.low.items ++ shifted 1 l) c.deref-5.ensures.value in
+    split_labelled c.args.place (c.args.place + 1) low high now c.in_ok-low.low.items c.in_ok-high.high.items c.in_ok-joined.field-0.items refl split pairs c.in_ok-low.ensures.labelled c.in_ok-high.ensures.labelled
 
 pub returns-then-place-width-clause-exact : goal.returns-then-place-width-clause-exact
 returns-then-place-width-clause-exact t c =

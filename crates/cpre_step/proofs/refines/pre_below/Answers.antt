@@ -1,19 +1,7 @@
-use Rattle.std.proofs.Common.{◌≡◌, ◌∙◌, sym, subst, false, List}
-use Rattle.std.specs.Prelude.{ℤ}
-use Rattle.antichain_list.specs.Antichain.{covered}
-use Rattle.counter_vec.specs.Counters.{at_or_below}
-use Rattle.cpre_step.specs.Refinement.{AreLeft, answers}
-use Rattle.cpre_step.proofs.Left.{not_kept}
+use Rattle.std.proofs.lemmas.Result.{IfOk-weaker}
+use Rattle.cpre_step.proofs.ByValuations.{refines_by_valuations}
 use Rattle.cpre_step.proofs.refines.pre_below.Goals as goal
 
-pub returns : goal.returns
-returns g c =
-    let list : List (List ℤ) = g.D.Downset.entries c.args.d.now in
-    let game = c.args.g.now in
-    let f : List ℤ = c.args.f.now in
-    let here = c.in_ok-left.ensures.covers f c.requires.vector in
-    let out : covered at_or_below f c.in_ok-left.left ≡ false = sym c.covers.ensures ∙ c.if-covers.false in (
-      not_kept f (answers game list f) (sym here ∙ out),
-      subst (λ left. AreLeft game list f left) (sym c.into_entries.ensures.value)
-          (record { vectors = c.in_ok-left.ensures.vectors; antichain = c.into_entries.ensures.antichain; covers = c.in_ok-left.ensures.covers }),
-    )
+pub returns-clause-valuations : goal.returns-clause-valuations
+returns-clause-valuations g c letters covering =
+    IfOk-weaker _ _ _ (refines_by_valuations c.args.g.now c.known.ensures letters covering (g.D.Downset.entries c.args.d.now) c.args.f.now) c.by_options.ensures
