@@ -1,5 +1,5 @@
 -- Games of an automaton and of its classes: what is held in the one is held in the other.
-use Rattle.std.proofs.Common.{◌≡◌, ℕ, zero, suc, ◌+◌, ◌<◌, ◌≤◌, ◌^◌, ◌⊎◌, inl, inr, Bool, true, false, cond, nat_eq, List, [], ◌∷◌, length, map, get_or, Option, Some, None, refl, sym, ◌∙◌, ap, subst, arith}
+use Rattle.std.proofs.Common.{◌≡◌, ℕ, zero, suc, ◌<◌, ◌≤◌, ◌^◌, ◌⊎◌, inl, inr, Bool, true, false, cond, nat_eq, List, [], ◌∷◌, length, map, Option, Some, None, refl, sym, ◌∙◌, ap, subst, arith}
 use Rattle.std.specs.Prelude.{ℤ, pos, negsuc, ◌≤ℤ◌, option_map}
 use Rattle.std.specs.Int.{int_max}
 use Rattle.std.specs.Option.{IfSome}
@@ -10,14 +10,13 @@ use Rattle.word_core.specs.Automaton.{AutomatonData, IsAutomaton, edges_at}
 use Rattle.word_core.specs.Machine.{MachineData, IsMachine, IsLine, lines_at, own_of, other_of}
 use Rattle.word_core.specs.Play.{Move, IsPlayFrom, letter_of}
 use Rattle.word_core.proofs.TreeLabels.{label_of-all}
-use Rattle.game_form.specs.declared.actions.Step.{Step}
 use Rattle.game_form.specs.Game as game
 use Rattle.game_form.specs.Game.{GameData, IsGame, lanes, action_at, action_of, row_at, own_width, other_width}
 use Rattle.std.specs.List.{range_with_len}
-use Rattle.game_form.specs.Vector.{lane, number, arrived, successor, bound, size_of, begins, initial, IsVector, AtOrBelow}
-use Rattle.game_form.specs.Held.{after, InBound, IsMachineOf, KeepsFrom, IsHeld}
+use Rattle.game_form.specs.Vector.{lane, number, arrived, successor, bound, size_of, begins, initial, AtOrBelow}
+use Rattle.game_form.specs.Held.{after, InBound, IsMachineOf, IsHeld}
 use Rattle.action_groups.specs.Rows.{edge_number, HasRows}
-use Rattle.nba_quotient.specs.Folding.{IsFirstOf, IsFolding}
+use Rattle.nba_quotient.specs.Folding.{IsFolding}
 use Rattle.nba_quotient.specs.Ways.{class_at}
 use Rattle.dual_game.proofs.Counted.{decided, lane_successor, length_successor}
 use Rattle.dual_game.proofs.Shadow.{IsShadow, number_up, number_down, arrived_below, arrived_reached}

@@ -2,6 +2,8 @@ mod Alike
 mod Avoiding
 mod Counted
 mod Decided
+mod Grouped
+mod InOrder
 mod Lifting
 mod Meeting
 mod OneList

@@ -1,6 +1,6 @@
 -- The maximal held vectors of the whole game are those of the game of classes, lifted, in the same order.
-use Rattle.std.proofs.Common.{◌≡◌, ℕ, zero, suc, ◌+◌, ◌<◌, ◌≤◌, ◌⊎◌, inl, inr, Bool, true, false, cond, List, [], ◌∷◌, length, map, get_or, Option, Some, None, refl, sym, ◌∙◌, ap, subst, arith}
-use Rattle.std.specs.Prelude.{ℤ, pos, negsuc, ◌≤ℤ◌, ◌≢◌}
+use Rattle.std.proofs.Common.{◌≡◌, ℕ, zero, suc, ◌+◌, ◌<◌, Bool, true, false, cond, List, [], ◌∷◌, length, map, get_or, Some, refl, sym, ◌∙◌, ap, subst, arith}
+use Rattle.std.specs.Prelude.{ℤ, negsuc, ◌≤ℤ◌, ◌≢◌}
 use Rattle.std.specs.List.{position_from}
 use Rattle.std.specs.Ordering.{int_cmp, ordering_then}
 use Rattle.std.specs.declared.cmp.Ordering.{Ordering}
@@ -11,7 +11,7 @@ use Rattle.word_core.specs.Automaton.{AutomatonData}
 use Rattle.antichain_list.specs.Antichain as ascending
 use Rattle.counter_vec.specs.Counters.{at_or_below, lexicographic}
 use Rattle.counter_vec.proofs.Vectors.{at_or_below-lanes, lanes-at_or_below, lexicographic_at}
-use Rattle.game_form.specs.Game.{GameData, lanes}
+use Rattle.game_form.specs.Game.{GameData}
 use Rattle.game_form.specs.Held.{IsAntichain, IsHeld, HasHeld}
 use Rattle.game_form.specs.Predecessor.{Covered}
 use Rattle.game_form.specs.Vector.{lane, AtOrBelow}

@@ -1,10 +1,9 @@
 -- Counters of classes stand for counters of states.
 use Rattle.std.proofs.Common.{◌≡◌, ℕ, zero, suc, ◌+◌, ◌<◌, ◌≤◌, Bool, true, false, min, List, length, refl, sym, ◌∙◌, ap, subst, arith}
 use Rattle.std.specs.Prelude.{ℤ, pos, negsuc, ◌≤ℤ◌}
-use Rattle.std.specs.List.{All, Contains}
+use Rattle.std.specs.List.{All}
 use Rattle.std.proofs.lemmas.Int.{ints}
-use Rattle.std.proofs.lemmas.List.Elements.{All-get_or, All-contains}
-use Rattle.word_core.specs.declared.automata.Edge.{Edge}
+use Rattle.std.proofs.lemmas.List.Elements.{All-contains}
 use Rattle.word_core.specs.Automaton.{AutomatonData, IsAutomaton, IsEdge, edges_at}
 use Rattle.game_form.specs.declared.actions.Step.{Step}
 use Rattle.game_form.specs.Game.{row_at}
@@ -12,9 +11,9 @@ use Rattle.game_form.specs.Vector.{lane, number, brought, arrived}
 use Rattle.counter_vec.proofs.Vectors.{arrived_low}
 use Rattle.action_groups.specs.Numbers.{mark_number}
 use Rattle.action_groups.specs.Rows.{edge_number}
-use Rattle.nba_quotient.specs.Folding.{IsFirstOf, IsFolding}
+use Rattle.nba_quotient.specs.Folding.{IsFolding}
 use Rattle.nba_quotient.specs.Ways.{class_at}
-use Rattle.dual_game.proofs.Counted.{mark, number_of_mark, edge_counts, arrives}
+use Rattle.dual_game.proofs.Counted.{number_of_mark, edge_counts, arrives}
 use Rattle.dual_game.proofs.Reached.{edge_taken, arrived_from, brought_from}
 
 -- a counter for each class: the greatest of its states

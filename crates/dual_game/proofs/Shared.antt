@@ -1,13 +1,12 @@
 -- The game of the quotient has the machine of the whole game.
-use Rattle.std.proofs.Common.{◌≡◌, ℕ, ◌≤◌, List, map, sym, ◌∙◌}
-use Rattle.word_core.specs.declared.machines.Line.{Line}
+use Rattle.std.proofs.Common.{ℕ, ◌≤◌, List, map, sym, ◌∙◌}
 use Rattle.word_core.specs.declared.names.Names.{Names}
 use Rattle.word_core.specs.declared.names.Player.{Player}
 use Rattle.word_core.specs.Automaton.{AutomatonData, IsAutomaton}
 use Rattle.game_form.specs.Game.{GameData, IsGame}
 use Rattle.nba_quotient.specs.Folding.{IsFolding}
 use Rattle.dual_game.specs.Games.{IsGameOf}
-use Rattle.dual_game.specs.Machines.{IsMachineOfHeld, SharesMachine}
+use Rattle.dual_game.specs.Machines.{SharesMachine}
 use Rattle.dual_game.specs.Winning.{with_bound}
 use Rattle.dual_game.proofs.Alike.{AreAlike, lifted}
 use Rattle.dual_game.proofs.Decided.{game_with}

@@ -11,6 +11,7 @@ use Rattle.word_core.specs.Automaton.{AutomatonData}
 use Rattle.game_form.specs.Game.{GameData, lanes}
 use Rattle.game_form.specs.Covering.{CoversLetters}
 use Rattle.game_form.specs.Letters.{HasLetters}
+use Rattle.action_groups.specs.Grouped.{IsGrouped}
 use Rattle.action_groups.specs.Rows.{HasRows}
 
 -- under Mealy the system sees the inputs of a step before it chooses, under Moore the environment sees the outputs
@@ -20,7 +21,7 @@ kind_of System Moore = First
 kind_of Environment Mealy = First
 kind_of Environment Moore = Second
 
--- the game of an automaton over these names for a player, with a bound; its classes and options are those of its letters, and its rows have the numbers of the edges
+-- the game of an automaton over these names for a player, with a bound; its actions, classes and options are those of its letters, numbered by the least ones, and its rows have the numbers of the edges
 pub record IsGameOf (a : AutomatonData) (names : Names) (who : Player) (k : ℕ) (g : GameData) : Type 0 where
   pub player : g.player ≡ who
   pub kind : g.kind ≡ kind_of who names.target
@@ -32,3 +33,4 @@ pub record IsGameOf (a : AutomatonData) (names : Names) (who : Player) (k : ℕ)
   pub letters : HasLetters g
   pub covers : CoversLetters g
   pub rows : HasRows a g
+  pub grouped : IsGrouped a g

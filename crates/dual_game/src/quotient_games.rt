@@ -4,6 +4,7 @@ ghost use Rattle.std.specs.Prelude.{◌≡◌, ◌≤◌, IfOk};
 ghost use Rattle.tlsf_basic.specs.Specification.{signal_count};
 ghost use Rattle.dual_game.specs.Machines.{SharesMachine};
 ghost use Rattle.dual_game.specs.Winning.{Decides};
+ghost use Rattle.strategy_play.specs.Ordered.{IsInOrder};
 
 use crate::games::game;
 use game_form::Game;
@@ -26,6 +27,7 @@ pub fn quotient_game(
     requires few { signal_count names.now ≤ 40 }
     requires signals { a.now.signals ≡ signal_count names.now }
     ensures decides { IfOk result (Decides a.now names.now player) }
+    ensures order { IfOk result IsInOrder }
     ensures machine { IfOk result (SharesMachine a.now names.now player) }
 {
     let quotient = quotient(alloc, a)?;

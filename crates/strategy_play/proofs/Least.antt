@@ -1,16 +1,16 @@
 -- The answers in an entry are the least valuations that stay, where classes and options are in the order of their valuations.
-use Rattle.std.proofs.Common.{◌≡◌, ℕ, ◌+◌, ◌<◌, ◌≤◌, ◌^◌, Bool, true, false, List, [], ◌∷◌, suc, length, get_or, nat_lt, Option, Some, None, refl, sym, ◌∙◌, ap, subst, arith}
+use Rattle.std.proofs.Common.{◌≡◌, ℕ, ◌<◌, ◌≤◌, ◌^◌, Bool, true, false, List, [], ◌∷◌, suc, length, get_or, nat_lt, Option, Some, None, refl, sym, ◌∙◌, ap, subst, arith}
 use borrow.Author.Tests.{ltb-true, ltb-false}
 use Rattle.std.specs.Prelude.{ℤ}
-use Rattle.std.specs.List.{All, list_all}
-use Rattle.std.specs.Option.{is_some, IsSome, IsSomeAnd}
+use Rattle.std.specs.List.{All}
+use Rattle.std.specs.Option.{is_some, IsSome}
 use Rattle.word_core.specs.declared.names.Kind.{Kind}
 use Rattle.word_core.specs.declared.names.Kind.TheVariants.{First, Second}
 use Rattle.word_core.specs.declared.machines.Line.{Line}
 use Rattle.word_core.specs.Machine.{choice}
 use Rattle.word_core.proofs.TreeLabels.{label_of-all}
 use Rattle.game_form.specs.Covering.{covering_of, CoversLetters}
-use Rattle.game_form.specs.Game.{GameData, IsGame, class_at, class_of, action_of, option_at, no_class, of_first, of_second, own_width, other_width, first_width, second_width}
+use Rattle.game_form.specs.Game.{GameData, IsGame, class_at, class_of, action_of, option_at, no_class, of_first, of_second, own_width, other_width}
 use Rattle.game_form.specs.Letters.{letters_of, HasLetters}
 use Rattle.strategy_play.specs.Answer.{answer_of, IsAnswer}
 use Rattle.strategy_play.specs.Exact.{led_to, stays_by, IsLeast, IsMachineOfList}

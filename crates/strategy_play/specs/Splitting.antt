@@ -1,5 +1,5 @@
 -- Cubes that split one signal by signal.
-use Rattle.std.specs.Prelude.{ℕ, ◌+◌, ◌<◌, ◌≤◌, Bool, true, false, List, [], ◌∷◌, ◌++◌, map}
+use Rattle.std.specs.Prelude.{ℕ, ◌+◌, ◌<◌, ◌≤◌, true, false, List, [], ◌∷◌, ◌++◌, map}
 use Rattle.word_core.specs.declared.cubes.Cube.{Cube}
 use Rattle.word_core.specs.declared.machines.Line.{Line}
 use Rattle.letter_tree.specs.Splitting.{all_cube, fixed}
