@@ -66,10 +66,15 @@ fn shift(over: &mut Vec<usize>, gone: usize)
 {
     over.remove(gone);
     for i in 0..over.len() {
-        if over[i] > gone {
-            over[i] -= 1;
-        }
+        over[i] = place_without(over[i], gone);
     }
+}
+
+/// The place at which a place is when another one is taken out.
+fn place_without(place: usize, gone: usize) -> usize
+    ensures { result ≡ moved_down gone place }
+{
+    if place > gone { place - 1 } else { place }
 }
 
 /// Takes a vector out.
