@@ -1,5 +1,5 @@
 -- What is known while bound after bound is tried.
-use Rattle.std.proofs.Common.{◌≡◌, ℕ, ◌<◌, ◌≤◌, ◌⊎◌, Bool, true, false, nat_lt, Option, Some, None, inl, inr, refl, sym, ◌∙◌, ap, subst, arith}
+use Rattle.std.proofs.Common.{◌≡◌, ℕ, ◌+◌, ◌<◌, ◌≤◌, Bool, true, false, nat_lt, Some, None, inl, inr, refl, sym, ◌∙◌, ap, subst, arith}
 use borrow.Author.Tests.{ltb-true, ltb-false}
 use Rattle.word_core.specs.declared.names.Names.{Names}
 use Rattle.word_core.specs.declared.names.Player.{Player}
@@ -11,15 +11,16 @@ use Rattle.word_core.specs.declared.names.Kind.TheVariants.{First, Second}
 use Rattle.game_form.specs.Covering.{covering_of, CoversLetters}
 use Rattle.game_form.specs.Game.{GameData}
 use Rattle.game_form.specs.Letters.{letters_of, HasLetters}
-use Rattle.game_form.specs.Held.{IsHeld}
-use Rattle.game_form.specs.Vector.{initial}
 use Rattle.dual_game.specs.declared.bounds.Bounds.{Bounds}
 use Rattle.dual_game.specs.declared.games.Pair.{Pair}
 use Rattle.dual_game.specs.Bounds.{AreBounds, IsTried, tried_after}
-use Rattle.dual_game.specs.Winning.{IsMachineFor, Wins, NobodyWins, automaton_of, with_bound, Decides}
+use Rattle.dual_game.specs.Winning.{IsMachineFor, NobodyWins, automaton_of, with_bound, Decides}
 use Rattle.dual_game.proofs.Tried.{tried_first, tried_next, tried_low, none_between, none_before, after_last}
+use Rattle.bonsai_run.specs.declared.verdicts.Starts.{Starts}
 use Rattle.bonsai_run.specs.declared.verdicts.Verdict.TheVariants.{Won, Unknown}
 use Rattle.bonsai_run.specs.Answers.{IsVerdict}
+use Rattle.bonsai_run.specs.Turns.{AreStarts}
+use Rattle.game_core.specs.Start.{raised_by}
 use Rattle.bonsai_run.specs.Winners.{IsWinner, IsLost, IsFoundOfTwo}
 
 -- the bound is one of those tried, and nobody wins at an earlier one
@@ -84,13 +85,15 @@ module _ (b : Bounds) (system environment : GameData) (bound : ℕ) (trying : Tr
       let is : bound ≡ b.last = after_last b bound last in
       (is, λ k tried. so_far lost pair names s e k tried (subst (λ n. k ≤ n) (sym is) (tried_low b k tried)))
 
--- where no machine was found
-pub found_none : (g h : GameData) (o : Option MachineData) → IsFoundOfTwo g h o → ((m : MachineData) → o ≡ Some m → ⊥) → IsFoundOfTwo g h None
-found_none g h None found not_some = found
-found_none g h (Some m) found not_some = absurd (not_some m refl)
+-- what a game is solved from at the next bound
+raised_to : (g system : GameData) (bound n by : ℕ) → g ≡ with_bound bound system → bound + by ≡ n → raised_by by g ≡ with_bound n system
+raised_to g system bound n by is e = ap (raised_by by) is ∙ ap (λ k. with_bound k system) e
 
-pub found_some : (g h : GameData) (o : Option MachineData) (m : MachineData) → IsFoundOfTwo g h o → o ≡ Some m → IsFoundOfTwo g h (Some m)
-found_some g h o m found is = subst (IsFoundOfTwo g h) is found
+pub starts_at : (g h g' h' system environment : GameData) (bound n by : ℕ) (s : Starts) → g ≡ with_bound bound system → h ≡ with_bound bound environment
+    → g' ≡ with_bound n system → h' ≡ with_bound n environment → bound + by ≡ n → AreStarts (raised_by by g) (raised_by by h) s → AreStarts g' h' s
+starts_at g h g' h' system environment bound n by s g_is h_is g_new h_new e starts =
+    subst (λ x. AreStarts x h' s) (raised_to g system bound n by g_is e ∙ sym g_new)
+    (subst (λ x. AreStarts (raised_by by g) x s) (raised_to h environment bound n by h_is e ∙ sym h_new) starts)
 
 -- the letters of a game don't depend on its bound
 letters_of_kind : (kind : Kind) (g : GameData) (k : ℕ) → letters_of kind g → letters_of kind (with_bound k g)

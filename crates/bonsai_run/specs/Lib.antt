@@ -4,5 +4,6 @@ pub mod Errors
 pub mod Faults
 pub mod Runs
 pub mod Texts
+pub mod Turns
 pub mod Winners
 pub mod Writing

@@ -13,11 +13,6 @@ IsWinner g m = IsMachineOf g m × KeepsFrom g m 0 (initial g)
 abbrev pub IsLost : GameData → Type 0
 IsLost g = IsHeld g (initial g) → ⊥
 
--- a machine that wins the game, or none where there is none
-abbrev pub IsFound : GameData → Option MachineData → Type 0
-IsFound g (Some m) = IsWinner g m
-IsFound g None = IsLost g
-
 -- a machine that wins one of two games, or none where there is none for either
 abbrev pub IsFoundOfTwo : GameData → GameData → Option MachineData → Type 0
 IsFoundOfTwo g h (Some m) = IsWinner g m ⊎ IsWinner h m

@@ -7,6 +7,7 @@ ghost use Rattle.dual_game.specs.Bounds.{AreBounds};
 ghost use Rattle.dual_game.specs.Winning.{Decides, with_bound};
 ghost use Rattle.game_form.specs.Covering.{CoversLetters};
 ghost use Rattle.game_core.specs.Solved.{IsSettled};
+ghost use Rattle.game_core.specs.Start.{IsStart, raised_by};
 ghost use Rattle.game_form.specs.Letters.{HasLetters};
 ghost use Rattle.ltl_form.specs.Formula.{signals_below};
 ghost use Rattle.tlsf_basic.specs.Specification.{signal_count};
@@ -14,13 +15,14 @@ ghost use Rattle.word_core.specs.declared.names.Names.{Names};
 ghost use Rattle.word_core.specs.declared.names.Player.TheVariants.{System, Environment};
 ghost use Rattle.bonsai_run.specs.Answers.{IsVerdict};
 ghost use Rattle.bonsai_run.specs.Causes.{ByLimit};
-ghost use Rattle.bonsai_run.specs.Winners.{IsWinner, IsFound, IsFoundOfTwo};
+ghost use Rattle.bonsai_run.specs.Turns.{AreStarts, IsSide, IsTurn};
+ghost use Rattle.bonsai_run.specs.Winners.{IsWinner};
 
 use crate::faults::Fault;
 use antichain_list::ListDownset;
 use counter_vec::Counters;
 use dual_game::{Bounds, automata, quotient_game};
-use game_core::{Solved, solve};
+use game_core::{Attempt, everything, lift, solve_from};
 use game_form::Game;
 use std::alloc::{AllocError, Global};
 use strategy_play::extract;
@@ -58,7 +60,32 @@ pub fn decide(alloc: Global, spec: &Spec, bounds: Bounds) -> Result<Verdict, Fau
     Ok(try_bounds(alloc, system, environment, bounds)?)
 }
 
-/// Tries bound after bound, the system's game first.
+/// What each player's game is solved from.
+#[derive(Drop)]
+struct Starts {
+    system: Vec<Counters>,
+    environment: Vec<Counters>,
+}
+
+/// What a game's solution at one bound is worth.
+#[derive(Drop)]
+enum Side {
+    /// A machine of the player that keeps the bound.
+    Won(Machine),
+    /// There is none; all that the player can hold is at or below these vectors.
+    Lost(Vec<Counters>),
+}
+
+/// What both games' solutions at one bound are worth.
+#[derive(Drop)]
+enum Turn {
+    /// A machine of one of the players that keeps the bound.
+    Won(Machine),
+    /// There is none, and from these vectors the games can be solved.
+    Lost(Starts),
+}
+
+/// Tries bound after bound, the system's game first. Each game is solved from what the bound before left of it.
 fn try_bounds(
     alloc: Global,
     system: Game,
@@ -74,15 +101,19 @@ fn try_bounds(
     ensures { (pair : Pair) (names : Names) → Decides pair.system names System system → Decides pair.environment names Environment environment → IfOk result (IsVerdict pair names bounds) }
 {
     let mut bound = bounds.first;
-    let mut games = (system, environment);
+    let mut games = at_bound(system, environment, bound);
+    let mut starts = first_starts(alloc, &games.0, &games.1)?;
     loop {
-        games = at_bound(games.0, games.1, bound);
-        if let Some(machine) = winner(alloc, &games.0, &games.1)? {
-            return Ok(Verdict::Won { bound, machine });
-        }
-        match bounds.after(bound) {
-            Some(next) => bound = next,
-            None => return Ok(Verdict::Unknown { bound }),
+        match winner(alloc, &games.0, &games.1, starts)? {
+            Turn::Won(machine) => return Ok(Verdict::Won { bound, machine }),
+            Turn::Lost(left) => match bounds.after(bound) {
+                Some(next) => {
+                    starts = next_starts(alloc, &games.0, &games.1, &left, next - bound)?;
+                    games = at_bound(games.0, games.1, next);
+                    bound = next;
+                }
+                None => return Ok(Verdict::Unknown { bound }),
+            },
         }
     }
 }
@@ -97,29 +128,71 @@ fn at_bound(system: Game, environment: Game, bound: u32) -> (Game, Game)
     (system.with_bound(k), environment.with_bound(k))
 }
 
+/// What the games are solved from at the first bound.
+fn first_starts(alloc: Global, system: &Game, environment: &Game) -> Result<Starts, AllocError>
+    ensures { IfOk result (AreStarts system.now environment.now) }
+{
+    Ok(Starts {
+        system: everything(alloc, system)?,
+        environment: everything(alloc, environment)?,
+    })
+}
+
+/// What the games are solved from at a bound that is greater by `by`, at most 10,000.
+fn next_starts(
+    alloc: Global,
+    system: &Game,
+    environment: &Game,
+    left: &Starts,
+    by: u32,
+) -> Result<Starts, AllocError>
+    requires left { AreStarts system.now environment.now left.now }
+    requires by { by ≤ 10000 }
+    ensures { IfOk result (AreStarts (raised_by by system.now) (raised_by by environment.now)) }
+{
+    let by = by as i16;
+    Ok(Starts {
+        system: lift(alloc, system, &left.system, by)?,
+        environment: lift(alloc, environment, &left.environment, by)?,
+    })
+}
+
 /// The machine of the player who wins its game, if one does.
-fn winner(alloc: Global, system: &Game, environment: &Game) -> Result<Option<Machine>, AllocError>
+fn winner(
+    alloc: Global,
+    system: &Game,
+    environment: &Game,
+    starts: Starts,
+) -> Result<Turn, AllocError>
     requires system_letters { HasLetters system.now }
     requires system_covers { CoversLetters system.now }
     requires environment_letters { HasLetters environment.now }
     requires environment_covers { CoversLetters environment.now }
-    ensures { IfOk result (IsFoundOfTwo system.now environment.now) }
+    requires starts { AreStarts system.now environment.now starts }
+    ensures { IfOk result (IsTurn system.now environment.now) }
 {
-    match machine_of(alloc, system)? {
-        Some(machine) => Ok(Some(machine)),
-        None => machine_of(alloc, environment),
+    match side_of(alloc, system, starts.system)? {
+        Side::Won(machine) => Ok(Turn::Won(machine)),
+        Side::Lost(left) => match side_of(alloc, environment, starts.environment)? {
+            Side::Won(machine) => Ok(Turn::Won(machine)),
+            Side::Lost(other) => Ok(Turn::Lost(Starts {
+                system: left,
+                environment: other,
+            })),
+        },
     }
 }
 
 /// A machine that wins a game, if there is one.
-fn machine_of(alloc: Global, g: &Game) -> Result<Option<Machine>, AllocError>
+fn side_of(alloc: Global, g: &Game, start: Vec<Counters>) -> Result<Side, AllocError>
     requires letters { HasLetters g.now }
     requires covers { CoversLetters g.now }
-    ensures { IfOk result (IsFound g.now) }
+    requires start { IsStart g.now start.items }
+    ensures { IfOk result (IsSide g.now) }
 {
-    match solve(alloc, g, false)? {
-        Solved::Held(list) => Ok(Some(strategy(alloc, g, &list)?)),
-        Solved::Lost => Ok(None),
+    match solve_from(alloc, g, start, false)? {
+        Attempt::Held(list) => Ok(Side::Won(strategy(alloc, g, &list)?)),
+        Attempt::Lost(left) => Ok(Side::Lost(left)),
     }
 }
 

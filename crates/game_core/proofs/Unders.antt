@@ -195,14 +195,6 @@ classes_more u f now pieces new columns plan options failing c d lt is member ol
     ∙ met_step false (at_or_below u f) (list_any (λ (o : Vec ℕ Global). each_covers u columns o.items) (take c plan)) here
     ∙ ap (λ b. at_or_below u f && b) (sym (list_any_more (λ (o : Vec ℕ Global). each_covers u columns o.items) plan c d lt))
 
--- where none is at or below p and some is comparable with it, p is at or below that one
-pub under_where_not_apart : (p : List ℤ) (xs : List (List ℤ)) → All (λ e. at_or_below e p ≡ false) xs → (All (λ e. IsApart e p) xs → ⊥) → under xs p ≡ true
-under_where_not_apart p xs above not_apart = go (under xs p) refl
-  where
-    go : (b : Bool) → under xs p ≡ b → b ≡ true
-    go true e = refl
-    go false e = absurd (not_apart (λ k d lt. (above k d lt, misses_from p xs e k d lt)))
-
 not_below : (f v p : List ℤ) → at_or_below v f ≡ false → at_or_below p f ≡ true → at_or_below v p ≡ false
 not_below f v p above below = go (at_or_below v p) refl
   where

@@ -1,7 +1,7 @@
 //! Vectors each of which points to one at or above it, so that only those that point to themselves need be looked at.
 
-ghost use Rattle.std.specs.Prelude.{◌≡◌, ◌≢◌, ◌<◌, ◌≤◌, ◌+◌, ℕ, ℤ, List, true, false, [], ◌∷◌, ◌++◌, if◌then◌else◌, is_ok, length, vec_len, remove, IfOk, OnOk, IfSome, IfNone, slice_index_or};
-ghost use Rattle.std.specs.List.{All, Contains};
+ghost use Rattle.std.specs.Prelude.{◌≡◌, ◌≢◌, ◌<◌, ◌≤◌, ◌+◌, ℕ, ℤ, List, true, false, [], ◌∷◌, ◌++◌, if◌then◌else◌, is_ok, length, remove, IfOk, OnOk, IfSome, IfNone, slice_index_or};
+ghost use Rattle.std.specs.List.{All};
 ghost use Rattle.counter_vec.specs.Counters.{at_or_below};
 ghost use Rattle.game_core.specs.Flat.{IsFlat, over_at, low_at, moved_down, picked};
 ghost use Rattle.game_core.specs.Front.{Misses, under};
@@ -66,10 +66,15 @@ fn shift(over: &mut Vec<usize>, gone: usize)
 {
     over.remove(gone);
     for i in 0..over.len() {
-        if over[i] > gone {
-            over[i] -= 1;
-        }
+        over[i] = place_without(over[i], gone);
     }
+}
+
+/// The place at which a place is when another one is taken out.
+fn place_without(place: usize, gone: usize) -> usize
+    ensures { result ≡ moved_down gone place }
+{
+    if place > gone { place - 1 } else { place }
 }
 
 /// Takes a vector out.
