@@ -11,9 +11,11 @@ use Rattle.word_core.specs.declared.names.Kind.TheVariants.{First, Second}
 use Rattle.game_form.specs.Covering.{covering_of, CoversLetters}
 use Rattle.game_form.specs.Game.{GameData}
 use Rattle.game_form.specs.Letters.{letters_of, HasLetters}
+use Rattle.strategy_play.specs.Ordered.{order_of, IsInOrder}
 use Rattle.dual_game.specs.declared.bounds.Bounds.{Bounds}
 use Rattle.dual_game.specs.declared.games.Pair.{Pair}
 use Rattle.dual_game.specs.Bounds.{AreBounds, IsTried, tried_after}
+use Rattle.dual_game.specs.Machines.{IsMachineOfWhole, SharesMachine}
 use Rattle.dual_game.specs.Winning.{IsMachineFor, NobodyWins, automaton_of, with_bound, Decides}
 use Rattle.dual_game.proofs.Tried.{tried_first, tried_next, tried_low, none_between, none_before, after_last}
 use Rattle.bonsai_run.specs.declared.verdicts.Starts.{Starts}
@@ -47,16 +49,22 @@ module _ (b : Bounds) (system environment : GameData) (bound : ℕ) (trying : Tr
       → IsMachineFor names m.player m × Keeps (automaton_of pair m.player) m bound
   won pair names who m w = subst (λ p. IsMachineFor names p m × Keeps (automaton_of pair p) m bound) (sym w.0.player) w
 
+  of_whole : (pair : Pair) (names : Names) (who : Player) (m : MachineData) → m.player ≡ who → IsMachineOfWhole (automaton_of pair who) names who bound m.states
+      → IsMachineOfWhole (automaton_of pair m.player) names m.player bound m.states
+  of_whole pair names who m is = subst (λ p. IsMachineOfWhole (automaton_of pair p) names p bound m.states) (sym is)
+
   pub wins : (m : MachineData) → IsFoundOfTwo g h (Some m) → (pair : Pair) (names : Names) → Decides pair.system names System system → Decides pair.environment names Environment environment
-      → IsVerdict pair names b (Won bound m)
-  wins m (inl w) pair names s e =
+      → SharesMachine pair.system names System system → SharesMachine pair.environment names Environment environment → IsVerdict pair names b (Won bound m)
+  wins m (inl w) pair names s e system_shares environment_shares =
       let k = subst (λ g. IsWinner g m) g_is w in
-      let r = won pair names System m (s.sound bound m low k.0 k.1) in
-      (trying.tried, trying.before pair names s e, r.0, r.1)
-  wins m (inr w) pair names s e =
+      let kept = s.sound bound m low k.0 k.1 in
+      let r = won pair names System m kept in
+      (trying.tried, trying.before pair names s e, r.0, r.1, of_whole pair names System m kept.0.player (system_shares bound m.states low k.2))
+  wins m (inr w) pair names s e system_shares environment_shares =
       let k = subst (λ g. IsWinner g m) h_is w in
-      let r = won pair names Environment m (e.sound bound m low k.0 k.1) in
-      (trying.tried, trying.before pair names s e, r.0, r.1)
+      let kept = e.sound bound m low k.0 k.1 in
+      let r = won pair names Environment m kept in
+      (trying.tried, trying.before pair names s e, r.0, r.1, of_whole pair names Environment m kept.0.player (environment_shares bound m.states low k.2))
 
   nobody : IsFoundOfTwo g h None → (pair : Pair) (names : Names) → Decides pair.system names System system → Decides pair.environment names Environment environment → NobodyWins pair names bound
   nobody lost pair names s e System wins = subst IsLost g_is lost.0 (s.exact bound low wins)
@@ -103,6 +111,13 @@ letters_of_kind Second g k h = h
 covering_of_kind : (kind : Kind) (g : GameData) (k : ℕ) → covering_of kind g → covering_of kind (with_bound k g)
 covering_of_kind First g k h = h
 covering_of_kind Second g k h = h
+
+order_of_kind : (kind : Kind) (g : GameData) (k : ℕ) → order_of kind g → order_of kind (with_bound k g)
+order_of_kind First g k h = h
+order_of_kind Second g k h = h
+
+pub in_order : (g h : GameData) (k : ℕ) → h ≡ with_bound k g → IsInOrder g → IsInOrder h
+in_order g h k is order = subst IsInOrder (sym is) (order_of_kind g.kind g k order)
 
 pub has_letters : (g h : GameData) (k : ℕ) → h ≡ with_bound k g → HasLetters g → HasLetters h
 has_letters g h k is letters = subst HasLetters (sym is) (letters_of_kind g.kind g k letters)

@@ -13,6 +13,7 @@ use Rattle.dual_game.specs.declared.bounds.Bounds.{Bounds}
 use Rattle.dual_game.specs.declared.games.Pair.{Pair}
 use Rattle.dual_game.specs.Bounds.{IsTried}
 use Rattle.dual_game.specs.Automata.{avoided, IsAutomatonOf, IsPairOf}
+use Rattle.dual_game.specs.Machines.{IsMachineOfWhole}
 use Rattle.dual_game.specs.Winning.{IsMachineFor, Wins, NobodyWins, automaton_of}
 use Rattle.shelf_io.specs.Texts.{Texts}
 use Rattle.ltl_form.specs.declared.formulas.Ltl.{Ltl}
@@ -78,11 +79,12 @@ abbrev pub unknown_comment : ℕ → List ℕ
 unknown_comment bound = codes "// UNKNOWN bound " ++ decimal bound ++ codes "\n"
 
 -- the verdict on automata: at the least tried bound at which a player wins, a machine of that player which keeps the bound
--- on the player's automaton; where nobody wins at any tried bound, the last one
+-- on the player's automaton, and which is that of the maximal held vectors of the automaton's game; where nobody wins at any tried bound, the last one
 abbrev pub IsVerdict : Pair → Names → Bounds → Verdict → Type 0
 IsVerdict pair names bounds (Won bound machine) =
     IsTried bounds bound × ((k : ℕ) → IsTried bounds k → k < bound → NobodyWins pair names k)
     × IsMachineFor names machine.player machine × Keeps (automaton_of pair machine.player) machine bound
+    × IsMachineOfWhole (automaton_of pair machine.player) names machine.player bound machine.states
 IsVerdict pair names bounds (Unknown bound) = (bound ≡ bounds.last) × ((k : ℕ) → IsTried bounds k → NobodyWins pair names k)
 
 -- on each lasso that the machine of a verdict plays the formula holds for the system, and fails for the environment

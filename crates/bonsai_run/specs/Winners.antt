@@ -4,10 +4,11 @@ use Rattle.word_core.specs.Machine.{MachineData}
 use Rattle.game_form.specs.Game.{GameData}
 use Rattle.game_form.specs.Held.{IsHeld, IsMachineOf, KeepsFrom}
 use Rattle.game_form.specs.Vector.{initial}
+use Rattle.dual_game.specs.Machines.{IsMachineOfHeld}
 
--- a machine of the game's player that keeps every lane at most at the bound
+-- the machine of the maximal held vectors, of the game's player; it keeps every lane at most at the bound
 abbrev pub IsWinner : GameData → MachineData → Type 0
-IsWinner g m = IsMachineOf g m × KeepsFrom g m 0 (initial g)
+IsWinner g m = IsMachineOf g m × KeepsFrom g m 0 (initial g) × IsMachineOfHeld g m.states
 
 -- no machine does
 abbrev pub IsLost : GameData → Type 0

@@ -4,11 +4,17 @@ ghost use Rattle.std.specs.Prelude.{◌≡◌, ◌≤◌, true, false, IfOk, IfE
 ghost use Rattle.dual_game.specs.declared.games.Pair.{Pair};
 ghost use Rattle.dual_game.specs.Automata.{IsPairOf, IsLimitOfPair};
 ghost use Rattle.dual_game.specs.Bounds.{AreBounds};
+ghost use Rattle.antichain_list.specs.Antichain.{IsAntichain};
+ghost use Rattle.counter_vec.specs.Counters.{at_or_below, lexicographic};
+ghost use Rattle.dual_game.specs.Machines.{IsMachineOfHeld, SharesMachine};
 ghost use Rattle.dual_game.specs.Winning.{Decides, with_bound};
 ghost use Rattle.game_form.specs.Covering.{CoversLetters};
 ghost use Rattle.game_core.specs.Solved.{IsSettled};
 ghost use Rattle.game_core.specs.Start.{IsStart, raised_by};
+ghost use Rattle.game_form.specs.Held.{IsMachineOf, KeepsFrom};
 ghost use Rattle.game_form.specs.Letters.{HasLetters};
+ghost use Rattle.game_form.specs.Vector.{initial};
+ghost use Rattle.strategy_play.specs.Ordered.{IsInOrder};
 ghost use Rattle.ltl_form.specs.Formula.{signals_below};
 ghost use Rattle.tlsf_basic.specs.Specification.{signal_count};
 ghost use Rattle.word_core.specs.declared.names.Names.{Names};
@@ -16,7 +22,6 @@ ghost use Rattle.word_core.specs.declared.names.Player.TheVariants.{System, Envi
 ghost use Rattle.bonsai_run.specs.Answers.{IsVerdict};
 ghost use Rattle.bonsai_run.specs.Causes.{ByLimit};
 ghost use Rattle.bonsai_run.specs.Turns.{AreStarts, IsSide, IsTurn};
-ghost use Rattle.bonsai_run.specs.Winners.{IsWinner};
 
 use crate::faults::Fault;
 use antichain_list::ListDownset;
@@ -98,7 +103,9 @@ fn try_bounds(
     requires system_covers { CoversLetters system }
     requires environment_letters { HasLetters environment }
     requires environment_covers { CoversLetters environment }
-    ensures { (pair : Pair) (names : Names) → Decides pair.system names System system → Decides pair.environment names Environment environment → IfOk result (IsVerdict pair names bounds) }
+    requires system_order { IsInOrder system }
+    requires environment_order { IsInOrder environment }
+    ensures { (pair : Pair) (names : Names) → Decides pair.system names System system → Decides pair.environment names Environment environment → SharesMachine pair.system names System system → SharesMachine pair.environment names Environment environment → IfOk result (IsVerdict pair names bounds) }
 {
     let mut bound = bounds.first;
     let mut games = at_bound(system, environment, bound);
@@ -168,6 +175,8 @@ fn winner(
     requires system_covers { CoversLetters system.now }
     requires environment_letters { HasLetters environment.now }
     requires environment_covers { CoversLetters environment.now }
+    requires system_order { IsInOrder system.now }
+    requires environment_order { IsInOrder environment.now }
     requires starts { AreStarts system.now environment.now starts }
     ensures { IfOk result (IsTurn system.now environment.now) }
 {
@@ -187,6 +196,7 @@ fn winner(
 fn side_of(alloc: Global, g: &Game, start: Vec<Counters>) -> Result<Side, AllocError>
     requires letters { HasLetters g.now }
     requires covers { CoversLetters g.now }
+    requires order { IsInOrder g.now }
     requires start { IsStart g.now start.items }
     ensures { IfOk result (IsSide g.now) }
 {
@@ -196,13 +206,25 @@ fn side_of(alloc: Global, g: &Game, start: Vec<Counters>) -> Result<Side, AllocE
     }
 }
 
-/// The machine that stays in a closed list with a vector at or above the initial one.
+/// The machine of the maximal held vectors, one of which is at or above the initial one.
 fn strategy(alloc: Global, g: &Game, list: &ListDownset<Counters>) -> Result<Machine, AllocError>
     requires letters { HasLetters g.now }
+    requires covers { CoversLetters g.now }
+    requires order { IsInOrder g.now }
     requires list { IsSettled g.now false list.now }
-    ensures { IfOk result (IsWinner g.now) }
+    ensures machine { IfOk result (IsMachineOf g.now) }
+    ensures keeps { IfOk result (λ m. KeepsFrom g.now m 0 (initial g.now)) }
+    ensures held { IfOk result (λ m. IsMachineOfHeld g.now m.states) }
 {
+    ascends(list);
     let machine = extract(alloc, g, list)?;
     let _ = machine.states();
     Ok(machine)
+}
+
+/// What is known of every list: its entries ascend, and none is at or below another one.
+fn ascends(list: &ListDownset<Counters>)
+    ensures { IsAntichain at_or_below lexicographic list.now }
+{
+    let _ = list.entries();
 }

@@ -1,7 +1,7 @@
 use Rattle.std.proofs.Common.{sym, ◌∙◌, ap, subst, arith, rules}
 use Rattle.dual_game.specs.Winning.{with_bound}
 use Rattle.bonsai_run.specs.Turns.{IsTurn}
-use Rattle.bonsai_run.proofs.Trying.{trying_first, wins, goes_on, ends, has_letters, covers_letters, starts_at}
+use Rattle.bonsai_run.proofs.Trying.{trying_first, wins, goes_on, ends, has_letters, covers_letters, in_order, starts_at}
 use Rattle.bonsai_run.proofs.verdicts.try_bounds.Goals as goal
 
 pub winner-requires-clause-system_letters : goal.winner-requires-clause-system_letters
@@ -15,6 +15,12 @@ winner-requires-clause-environment_letters c = has_letters c.args.environment c.
 
 pub winner-requires-clause-environment_covers : goal.winner-requires-clause-environment_covers
 winner-requires-clause-environment_covers c = covers_letters c.args.environment c.loop-games.games.1 c.loop-games.bound c.loop-games.invariant.3 c.requires.environment_covers
+
+pub winner-requires-clause-system_order : goal.winner-requires-clause-system_order
+winner-requires-clause-system_order c = in_order c.args.system c.loop-games.games.0 c.loop-games.bound c.loop-games.invariant.2 c.requires.system_order
+
+pub winner-requires-clause-environment_order : goal.winner-requires-clause-environment_order
+winner-requires-clause-environment_order c = in_order c.args.environment c.loop-games.games.1 c.loop-games.bound c.loop-games.invariant.3 c.requires.environment_order
 
 pub returns-in-Won : goal.returns-in-Won
 returns-in-Won c =
@@ -47,8 +53,9 @@ returns-in-None c =
     let h = c.loop-games.games.1 in
     let turn : IsTurn g h c.in_ok-machine.field-0 = c.in_ok-machine.ensures in
     let lost = subst (IsTurn g h) c.in-Lost.is turn in
-    ends c.args.bounds c.args.system c.args.environment c.loop-games.bound c.loop-games.invariant.1 c.requires.last g h c.loop-games.invariant.2 c.loop-games.invariant.3 (lost.0, lost.1)
-    (sym c.after.ensures.value ∙ c.in-None.is)
+    λ pair names system environment system_shares environment_shares.
+        ends c.args.bounds c.args.system c.args.environment c.loop-games.bound c.loop-games.invariant.1 c.requires.last g h c.loop-games.invariant.2 c.loop-games.invariant.3 (lost.0, lost.1)
+        (sym c.after.ensures.value ∙ c.in-None.is) pair names system environment
 
 pub loop-games-init : goal.loop-games-init
 loop-games-init c = (search rules, trying_first c.args.bounds c.args.system c.args.environment c.requires.bounds, c.at_bound-games.ensures.system, c.at_bound-games.ensures.environment, c.in_ok-starts.ensures)
