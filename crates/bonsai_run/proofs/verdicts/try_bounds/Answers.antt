@@ -54,8 +54,8 @@ returns-in-None c =
     let turn : IsTurn g h c.in_ok-machine.field-0 = c.in_ok-machine.ensures in
     let lost = subst (IsTurn g h) c.in-Lost.is turn in
     λ pair names system environment system_shares environment_shares.
-        ends c.args.bounds c.args.system c.args.environment c.loop-games.bound c.loop-games.invariant.1 c.requires.last g h c.loop-games.invariant.2 c.loop-games.invariant.3 (lost.0, lost.1)
-        (sym c.after.ensures.value ∙ c.in-None.is) pair names system environment
+    ends c.args.bounds c.args.system c.args.environment c.loop-games.bound c.loop-games.invariant.1 c.requires.last g h c.loop-games.invariant.2 c.loop-games.invariant.3 (lost.0, lost.1)
+    (sym c.after.ensures.value ∙ c.in-None.is) pair names system environment
 
 pub loop-games-init : goal.loop-games-init
 loop-games-init c = (search rules, trying_first c.args.bounds c.args.system c.args.environment c.requires.bounds, c.at_bound-games.ensures.system, c.at_bound-games.ensures.environment, c.in_ok-starts.ensures)
