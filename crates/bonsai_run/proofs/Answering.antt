@@ -22,6 +22,7 @@ use Rattle.bonsai_words.specs.Ordered.{Asked}
 use Rattle.bonsai_words.specs.Ordered.Asked.{synth, downset, check, eval, gen}
 use Rattle.bonsai_run.specs.declared.answers.Answer.{Answer}
 use Rattle.bonsai_run.specs.declared.verdicts.Verdict.{Verdict}
+use Rattle.bonsai_run.specs.Generated.{arbiter_formula}
 use Rattle.bonsai_run.specs.Texts.{IsUnder, IsSpecOf, IsLassoOf, IsMachineIn}
 use Rattle.bonsai_run.specs.Answers.{IsAnswer, IsWord, IsVerdict, bounds_of, verdict_of, verdict_text, verdict_comment, downset_text}
 use Rattle.bonsai_run.proofs.Satisfied.{satisfied, alone, kept_avoids}
@@ -67,10 +68,10 @@ module _ (texts : Option Texts) where
   is_fails name lasso as_written spec w s t of under is h k = answer_as _ s _ t _ h k (fails name lasso as_written spec w of under is)
 
   pub is_generated : (clients workers : ℕ) (spec : Spec) (pair : Pair) (v : Verdict) (s : ℕ) (t : List ℕ)
-      → IsSpec (arbiter_text clients) false spec → IsPairOf spec pair → IsVerdict pair spec.names (bounds_of (0, 1, 8)) v → s ≡ 0 → t ≡ arbiter_text clients ++ verdict_comment v
+      → IsSpec (arbiter_text clients) false spec → spec.formula ≡ arbiter_formula clients → IsPairOf spec pair → IsVerdict pair spec.names (bounds_of (0, 1, 8)) v → s ≡ 0 → t ≡ arbiter_text clients ++ verdict_comment v
       → IsAnswer texts (gen clients workers) s t
-  is_generated clients workers spec pair v s t of are is h k =
-      answer_as _ s _ t _ h k (generated clients workers spec pair v of are is (satisfied spec pair spec.names (bounds_of (0, 1, 8)) v are is) (alone spec pair spec.names (bounds_of (0, 1, 8)) v are is))
+  is_generated clients workers spec pair v s t of shows are is h k =
+      answer_as _ s _ t _ h k (generated clients workers spec pair v of shows are is (satisfied spec pair spec.names (bounds_of (0, 1, 8)) v are is) (alone spec pair spec.names (bounds_of (0, 1, 8)) v are is))
 
   -- of a machine whose bound was kept or not
   pub is_checked : (name machine : List ℕ) (bound : ℕ) (as_written : Bool) (spec : Spec) (text : List ℕ) (m : MachineData) (a : AutomatonData) (kept : Bool) (answer : Answer)

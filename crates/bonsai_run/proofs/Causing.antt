@@ -27,6 +27,7 @@ use Rattle.bonsai_run.specs.declared.faults.Fault.TheVariants.{Unwritten, Usage,
 use Rattle.bonsai_run.specs.Causes.{ByLimit, HasMachineLimit, HasLassoLimit, HasOwnLimit, IsCause, IsCheckFault, IsEvalFault, IsFetchFault, IsGenFault, IsLater, IsOfText, IsRead, IsUnreadable}
 use Rattle.bonsai_run.specs.Errors.{of_form, of_game, of_lasso, of_machine, of_text}
 use Rattle.bonsai_run.specs.Texts.{IsUnder, IsSpecOf}
+use Rattle.bonsai_run.proofs.Generated.{arbiter_has_no_fault}
 
 -- ---- the errors of lower steps
 
@@ -66,9 +67,9 @@ text_fault texts name as_written t under short text.Memory h = tt
 
 -- of a generated text
 module _ (clients : ℕ) where
-  pub gen_fault : (t : List ℕ) → t ≡ arbiter_text clients → (e : TextError) → IsRefused t false e → IsGenFault clients (of_text e)
-  gen_fault t is (text.Fault what place) h = subst (λ x. IsFault x false what place) is h
-  gen_fault t is text.Memory h = tt
+  pub gen_fault : 1 ≤ clients → clients ≤ 8 → (t : List ℕ) → t ≡ arbiter_text clients → (e : TextError) → IsRefused t false e → IsGenFault clients (of_text e)
+  gen_fault some small t is (text.Fault what place) h = absurd (arbiter_has_no_fault clients some small false what place (subst (λ x. IsFault x false what place) is h))
+  gen_fault some small t is text.Memory h = tt
 
   pub gen_limit : (spec : Spec) → IsSpec (arbiter_text clients) false spec → (e : Fault) → ByLimit (IsLimitOfPair spec) e → IsGenFault clients e
   gen_limit spec is Formulas h = record { spec = spec; is = is; limit = h }

@@ -27,6 +27,7 @@ use Rattle.machine_text.specs.Machines.{machine_text, player_word}
 use Rattle.spec_gen.specs.Arbiter.{arbiter_text}
 use Rattle.bonsai_words.specs.Ordered.{Asked}
 use Rattle.bonsai_words.specs.Ordered.Asked.{synth, downset, check, eval, gen}
+use Rattle.bonsai_run.specs.Generated.{arbiter_formula}
 use Rattle.bonsai_run.specs.Texts.{IsSpecOf, IsLassoOf, IsMachineIn}
 use Rattle.bonsai_run.specs.declared.answers.Answer.{Answer}
 use Rattle.bonsai_run.specs.declared.verdicts.Verdict.{Verdict}
@@ -146,6 +147,6 @@ pub data IsAnswer (texts : Option Texts) : Asked → ℕ → List ℕ → Type 0
       → IsSpecOf texts name as_written spec → IsLassoOf texts lasso spec w → holds_at w spec.formula 0 ≡ false
       → IsAnswer texts (eval name lasso as_written) 40 (codes "FAILS\n")
   generated : (clients workers : ℕ) (spec : Spec) (pair : Pair) (v : Verdict)
-      → IsSpec (arbiter_text clients) false spec → IsPairOf spec pair → IsVerdict pair spec.names (bounds_of (0, 1, 8)) v
+      → IsSpec (arbiter_text clients) false spec → spec.formula ≡ arbiter_formula clients → IsPairOf spec pair → IsVerdict pair spec.names (bounds_of (0, 1, 8)) v
       → IsSatisfied spec.formula v → IsAlone pair spec.names v
       → IsAnswer texts (gen clients workers) 0 (arbiter_text clients ++ verdict_comment v)

@@ -118,7 +118,6 @@ pub record HasOwnLimit (text : List ℕ) (fault : Fault) : Type 0 where
 
 -- why a generated text is refused
 abbrev pub IsGenFault : ℕ → Fault → Type 0
-IsGenFault clients (Text what place) = IsFault (arbiter_text clients) false what place
 IsGenFault clients Memory = Unit {0}
 IsGenFault clients fault = HasOwnLimit (arbiter_text clients) fault
 

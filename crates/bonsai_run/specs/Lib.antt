@@ -2,6 +2,7 @@ pub mod Answers
 pub mod Causes
 pub mod Errors
 pub mod Faults
+pub mod Generated
 pub mod Runs
 pub mod Texts
 pub mod Turns
