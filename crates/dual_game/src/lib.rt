@@ -10,5 +10,7 @@ mod quotient_games;
 pub use bounds::Bounds;
 pub use errors::GameError;
 pub use games::{Pair, automata, automaton, game, kind_of, normal_of};
-pub use laws::{counting_is_exact, counting_is_sound, kept_is_refused, only_one_wins};
+pub use laws::{
+    automaton_is_one, counting_is_exact, counting_is_sound, kept_is_refused, only_one_wins,
+};
 pub use quotient_games::quotient_game;
