@@ -51,15 +51,6 @@ tableau_limit nodes root signals tableau.TooWide many wide = wide refl
 tableau_limit nodes root signals tableau.TooManyStates many wide = many refl
 tableau_limit nodes root signals tableau.Memory many wide = tt
 
--- the normal form by the truth that a player must avoid
-pub is_normal : {E : Type 0} (s : Spec) (who : Player) (b : Bool) → b ≡ avoids_truth who → (r : Result NormalData E) → IfOk r (λ f. node_trees f.nodes ≡ numbered (normal_tree s.formula b) [])
-    → IfOk r (λ f. formula_at f.nodes f.root ≡ normal_tree s.formula b) → IfOk r (λ f. IsNormalOf s who f.nodes f.root)
-is_normal s who b is (Ok f) numbers whole = record {
-  numbers = subst (λ x. node_trees f.nodes ≡ numbered (normal_tree s.formula x) []) is numbers;
-  whole = subst (λ x. formula_at f.nodes f.root ≡ normal_tree s.formula x) is whole;
-}
-is_normal s who b is (Err e) numbers whole = tt
-
 module _ (s : Spec) (who : Player) where
   -- a normal form that is too long
   pub form_limit : (e : FormError) → (e ≡ form.TooManyFormulas → 512 < formula_count s who) → IsLimitOf s who (of_form e)

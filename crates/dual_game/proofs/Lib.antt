@@ -6,6 +6,8 @@ mod Grouped
 mod InOrder
 mod Lifting
 mod Meeting
+pub mod OneAutomaton
+mod OneForm
 mod OneList
 pub mod OneWinner
 mod Reached

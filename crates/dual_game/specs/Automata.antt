@@ -4,7 +4,8 @@ use Rattle.ltl_form.specs.declared.formulas.Ltl.{Ltl}
 use Rattle.ltl_form.specs.declared.normals.Node.{Node}
 use Rattle.ltl_form.specs.Meaning.{holds_at}
 use Rattle.ltl_form.specs.NodeTrees.{node_trees, formula_at}
-use Rattle.ltl_form.specs.Numbered.{numbered}
+use Rattle.ltl_form.specs.Normal.{IsNormal}
+use Rattle.ltl_form.specs.Numbered.{numbered, AreDistinct}
 use Rattle.ltl_form.specs.Tree.{normal_tree}
 use Rattle.tableau_nba.specs.Walks.{Outcome, Spot, all_spots, automaton_in, walk_data}
 use Rattle.tableau_nba.specs.Walks.Outcome.{found, too_wide, too_many}
@@ -35,6 +36,8 @@ formula_count s who = length (numbered (normal_tree s.formula (avoids_truth who)
 
 -- that normal form, its formulas numbered by their first occurrence
 pub record IsNormalOf (s : Spec) (who : Player) (nodes : List Node) (root : ℕ) : Type 0 where
+  pub is : IsNormal nodes root
+  pub distinct : AreDistinct (node_trees nodes)
   pub numbers : node_trees nodes ≡ numbered (normal_tree s.formula (avoids_truth who)) []
   pub whole : formula_at nodes root ≡ normal_tree s.formula (avoids_truth who)
 
@@ -66,6 +69,15 @@ IsLimitOf s who TooManyFormulas = 512 < formula_count s who
 IsLimitOf s who TooWide = HasTableau s who too_wide
 IsLimitOf s who TooManyStates = HasTableau s who too_many
 IsLimitOf s who Memory = Unit {0}
+
+-- a player of a specification has one automaton, or passes a limit, and not both
+pub record HasOneAutomaton (s : Spec) (who : Player) : Type 0 where
+  pub one : (a b : AutomatonData) → IsAutomatonOf s who a → IsAutomatonOf s who b → a ≡ b
+  pub no_limit : (a : AutomatonData) (e : GameError) → IsAutomatonOf s who a → IsLimitOf s who e → e ≡ Memory
+  pub one_limit : (d e : GameError) → IsLimitOf s who d → IsLimitOf s who e → (d ≡ Memory → ⊥) → (e ≡ Memory → ⊥) → d ≡ e
+
+abbrev pub AutomatonIsOne : Type 0
+AutomatonIsOne = (s : Spec) (who : Player) → HasOneAutomaton s who
 
 -- a tableau passes a limit: the system's, or the environment's where the system has its automaton; both normal forms are within theirs
 pub record HasWalkLimit (s : Spec) (how : Outcome) : Type 0 where

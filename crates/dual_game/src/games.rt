@@ -122,7 +122,9 @@ pub fn normal_of(alloc: Global, s: &Spec, player: Player) -> Result<Normal, Form
     ensures many { IfErr result (λ e. e ≡ TooManyFormulas → 512 < formula_count s.now player) }
     ensures meaning { (w : LassoData) → 0 < size w → IfOk result (λ f. tree_holds w (formula_at f.nodes f.root) 0 ≡ avoided player (holds_at w s.now.formula 0)) }
 {
-    nnf(alloc, &s.formula, avoids_truth(player))
+    let normal = nnf(alloc, &s.formula, avoids_truth(player))?;
+    let _ = normal.nodes();
+    Ok(normal)
 }
 
 /// Whether a player must avoid that the formula holds, as the environment must. The system must avoid that it fails.

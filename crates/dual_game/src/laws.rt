@@ -1,8 +1,15 @@
 //! Laws that tie games to the automata that they count on.
 
+ghost use Rattle.dual_game.specs.Automata.{AutomatonIsOne};
 ghost use Rattle.dual_game.specs.Counting.{CountingIsSound, CountingIsExact};
 ghost use Rattle.dual_game.specs.Machines.{HeldListIsOne};
 ghost use Rattle.dual_game.specs.Winning.{KeptIsRefused, OnlyOneWins};
+
+/// A player of a specification has one automaton, or passes one limit, and not both. So what is said of a player's
+/// automaton is said of the one that is made.
+pub fn automaton_is_one()
+    ensures { AutomatonIsOne }
+{}
 
 /// Counting is sound: a machine that keeps every lane of a game at most at the bound, along all its plays, keeps the
 /// bound on the automaton whose edges the game counts. So what the solver finds holds of runs.
