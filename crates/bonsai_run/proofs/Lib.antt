@@ -4,5 +4,6 @@ mod Causing
 mod Fetches
 mod Generated
 mod Names
+mod OneVerdict
 mod Satisfied
 mod Trying

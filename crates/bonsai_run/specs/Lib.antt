@@ -3,6 +3,7 @@ pub mod Causes
 pub mod Errors
 pub mod Faults
 pub mod Generated
+pub mod Laws
 pub mod Runs
 pub mod Texts
 pub mod Turns

@@ -9,6 +9,7 @@ mod downsets;
 mod errors;
 mod faults;
 mod generations;
+mod laws;
 mod orders;
 mod runs;
 #[cfg(test)]
@@ -17,4 +18,5 @@ mod texts;
 mod verdicts;
 mod writing;
 
+pub use laws::verdict_is_one;
 pub use runs::run_alone;
