@@ -14,6 +14,7 @@ use Rattle.tlsf_basic.specs.declared.specifications.Spec.{Spec}
 use Rattle.tlsf_basic.specs.Specification.{IsFault, IsRefused, IsSpec, signal_count}
 use Rattle.tlsf_basic.specs.declared.faults.TextError.{TextError}
 use Rattle.tlsf_basic.specs.declared.faults.TextError.TheVariants as text
+use Rattle.word_core.specs.declared.names.Player.{Player}
 use Rattle.word_core.specs.declared.names.Player.TheVariants.{Environment}
 use Rattle.word_core.specs.Lasso.{LassoData}
 use Rattle.word_core.specs.Machine.{MachineData}
@@ -24,7 +25,7 @@ use Rattle.spec_gen.specs.Arbiter.{arbiter_text}
 use Rattle.bonsai_run.specs.declared.faults.Source.TheVariants.{Specification, Other}
 use Rattle.bonsai_run.specs.declared.faults.Fault.{Fault}
 use Rattle.bonsai_run.specs.declared.faults.Fault.TheVariants.{Unwritten, Usage, Unread, Text, Line, Gap, NotFirst, Length, Formulas, Covers, States, Memory}
-use Rattle.bonsai_run.specs.Causes.{ByLimit, HasMachineLimit, HasLassoLimit, HasOwnLimit, IsCause, IsCheckFault, IsEvalFault, IsFetchFault, IsGenFault, IsLater, IsOfText, IsRead, IsUnreadable}
+use Rattle.bonsai_run.specs.Causes.{ByLimit, HasLimitFor, HasMachineLimit, HasLassoLimit, HasOwnLimit, IsCause, IsCheckFault, IsEvalFault, IsFetchFault, IsGenFault, IsLater, IsOfText, IsRead, IsUnreadable}
 use Rattle.bonsai_run.specs.Errors.{of_form, of_game, of_lasso, of_machine, of_text}
 use Rattle.bonsai_run.specs.Texts.{IsUnder, IsSpecOf}
 use Rattle.bonsai_run.proofs.Generated.{arbiter_has_no_fault}
@@ -141,15 +142,33 @@ module _ (texts : Option Texts) (name other : List ℕ) (as_written : Bool) wher
     limit_cause passed (NotFirst s) h = absurd h
     limit_cause passed (Length s) h = absurd h
 
+    pub player_limits : {T : Type 0} (player : Player) (r : Result T Fault) → IfErr r (ByLimit (IsLimitOf spec player)) → IfErr r (IsCause texts name other as_written (HasLimitFor player))
+    player_limits player (Ok x) h = tt
+    player_limits player (Err e) h = by e h
+      where
+        by : (e : Fault) → ByLimit (IsLimitOf spec player) e → IsCause texts name other as_written (HasLimitFor player) e
+        by Formulas h = later (HasLimitFor player) Formulas (record { limit = h })
+        by Covers h = later (HasLimitFor player) Covers (record { limit = h })
+        by States h = later (HasLimitFor player) States (record { limit = h })
+        by Memory h = tt
+        by Unwritten h = absurd h
+        by Usage h = absurd h
+        by (Unread s) h = absurd h
+        by (Text what place) h = absurd h
+        by (Line l) h = absurd h
+        by (Gap s) h = absurd h
+        by (NotFirst s) h = absurd h
+        by (Length s) h = absurd h
+
     pub limit_causes : {T : Type 0} (passed : Spec → GameError → Type 0) (r : Result T Fault) → IfErr r (ByLimit (passed spec)) → IfErr r (IsCause texts name other as_written (λ s. ByLimit (passed s)))
     limit_causes passed (Ok x) h = tt
     limit_causes passed (Err e) h = limit_cause passed e h
 
     module _ (t : List ℕ) (under : IsUnder texts other t) (short : length t ≤ 1048576) where
-      of_other : (is_of : Spec → List ℕ → Fault → Type 0) (e : Fault) → is_of spec t e → IsLater texts name as_written (λ s. IsOfText texts other (is_of s)) e
-      of_other is_of e h = later (λ s. IsOfText texts other (is_of s)) e (record { text = t; under = under; short = short; why = h })
+      of_other : (is_of : Spec → List ℕ → Fault → Type 0) (e : Fault) → is_of spec t e → IsLater texts name as_written (IsOfText texts other is_of) e
+      of_other is_of e h = later (IsOfText texts other is_of) e (record { text = t; under = under; short = short; why = h })
 
-      check_cause : (e : Fault) → IsCheckFault spec t e → IsCause texts name other as_written (λ s. IsOfText texts other (IsCheckFault s)) e
+      check_cause : (e : Fault) → IsCheckFault spec t e → IsCause texts name other as_written (IsOfText texts other IsCheckFault) e
       check_cause Formulas h = of_other IsCheckFault Formulas h
       check_cause Covers h = of_other IsCheckFault Covers h
       check_cause States h = of_other IsCheckFault States h
@@ -163,11 +182,11 @@ module _ (texts : Option Texts) (name other : List ℕ) (as_written : Bool) wher
       check_cause (Text what place) h = absurd h.limit
       check_cause (Length s) h = absurd h.limit
 
-      pub check_causes : {T : Type 0} (r : Result T Fault) → IfErr r (IsCheckFault spec t) → IfErr r (IsCause texts name other as_written (λ s. IsOfText texts other (IsCheckFault s)))
+      pub check_causes : {T : Type 0} (r : Result T Fault) → IfErr r (IsCheckFault spec t) → IfErr r (IsCause texts name other as_written (IsOfText texts other IsCheckFault))
       check_causes (Ok x) h = tt
       check_causes (Err e) h = check_cause e h
 
-      eval_cause : (e : Fault) → IsEvalFault spec t e → IsCause texts name other as_written (λ s. IsOfText texts other (IsEvalFault s)) e
+      eval_cause : (e : Fault) → IsEvalFault spec t e → IsCause texts name other as_written (IsOfText texts other IsEvalFault) e
       eval_cause Formulas h = of_other IsEvalFault Formulas h
       eval_cause (Line l) h = of_other IsEvalFault (Line l) h
       eval_cause Memory h = tt
@@ -181,7 +200,7 @@ module _ (texts : Option Texts) (name other : List ℕ) (as_written : Bool) wher
       eval_cause (Text what place) h = absurd h
       eval_cause (Length s) h = absurd h
 
-      pub eval_causes : {T : Type 0} (r : Result T Fault) → IfErr r (IsEvalFault spec t) → IfErr r (IsCause texts name other as_written (λ s. IsOfText texts other (IsEvalFault s)))
+      pub eval_causes : {T : Type 0} (r : Result T Fault) → IfErr r (IsEvalFault spec t) → IfErr r (IsCause texts name other as_written (IsOfText texts other IsEvalFault))
       eval_causes (Ok x) h = tt
       eval_causes (Err e) h = eval_cause e h
 

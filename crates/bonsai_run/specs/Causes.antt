@@ -3,6 +3,7 @@ use Rattle.std.specs.Prelude.{◌≡◌, ℕ, ◌<◌, ◌≤◌, Bool, false, O
 use Rattle.shelf_io.specs.Texts.{Texts}
 use Rattle.tlsf_basic.specs.declared.specifications.Spec.{Spec}
 use Rattle.tlsf_basic.specs.Specification.{IsFault, IsSpec, signal_count}
+use Rattle.word_core.specs.declared.names.Player.{Player}
 use Rattle.word_core.specs.declared.names.Player.TheVariants.{Environment}
 use Rattle.word_core.specs.Lasso.{LassoData}
 use Rattle.word_core.specs.Machine.{MachineData}
@@ -68,12 +69,16 @@ IsEvalFault spec text Formulas = HasLassoLimit spec text
 IsEvalFault spec text Memory = Unit {0}
 IsEvalFault spec text _ = ⊥
 
--- a fault of the text under a name
-pub record IsOfText (texts : Option Texts) (name : List ℕ) (is_of : List ℕ → Fault → Type 0) (fault : Fault) : Type 0 where
+-- a fault that a specification has of the text under a name
+pub record IsOfText (texts : Option Texts) (name : List ℕ) (is_of : Spec → List ℕ → Fault → Type 0) (spec : Spec) (fault : Fault) : Type 0 where
   pub text : List ℕ
   pub under : IsUnder texts name text
   pub short : length text ≤ 1048576
-  pub why : is_of text fault
+  pub why : is_of spec text fault
+
+-- a limit that is passed for one player
+pub record HasLimitFor (player : Player) (spec : Spec) (fault : Fault) : Type 0 where
+  pub limit : ByLimit (IsLimitOf spec player) fault
 
 -- a fault of a later step
 pub record IsLater (texts : Option Texts) (name : List ℕ) (as_written : Bool) (is_of : Spec → Fault → Type 0) (fault : Fault) : Type 0 where
@@ -124,7 +129,7 @@ IsGenFault clients fault = HasOwnLimit (arbiter_text clients) fault
 -- why an order is refused
 abbrev pub IsCauseOf : Option Texts → Asked → Fault → Type 0
 IsCauseOf texts (synth name bounds workers as_written) fault = IsCause texts name [] as_written (λ spec. ByLimit (IsLimitOfPair spec)) fault
-IsCauseOf texts (downset name player bound as_written) fault = IsCause texts name [] as_written (λ spec. ByLimit (IsLimitOf spec player)) fault
-IsCauseOf texts (check name machine bound as_written) fault = IsCause texts name machine as_written (λ spec. IsOfText texts machine (IsCheckFault spec)) fault
-IsCauseOf texts (eval name lasso as_written) fault = IsCause texts name lasso as_written (λ spec. IsOfText texts lasso (IsEvalFault spec)) fault
+IsCauseOf texts (downset name player bound as_written) fault = IsCause texts name [] as_written (HasLimitFor player) fault
+IsCauseOf texts (check name machine bound as_written) fault = IsCause texts name machine as_written (IsOfText texts machine IsCheckFault) fault
+IsCauseOf texts (eval name lasso as_written) fault = IsCause texts name lasso as_written (IsOfText texts lasso IsEvalFault) fault
 IsCauseOf texts (gen clients workers) fault = IsGenFault clients fault

@@ -1,5 +1,5 @@
 mod Alike
-mod Avoiding
+pub mod Avoiding
 mod Counted
 mod Decided
 mod Grouped

@@ -3,7 +3,7 @@ use Rattle.bonsai_words.specs.Ordered.Asked.{synth}
 use Rattle.dual_game.specs.Automata.{IsLimitOfPair}
 use Rattle.bonsai_run.specs.declared.answers.Answer.{Answer}
 use Rattle.bonsai_run.specs.Answers.{IsAnswer}
-use Rattle.bonsai_run.proofs.Causing.{first_cause, limit_causes, each_answer}
+use Rattle.bonsai_run.proofs.Causing.{limit_causes, each_answer}
 use Rattle.bonsai_run.proofs.orders.synth.Goals as goal
 
 pub returns-clause-answer : goal.returns-clause-answer
