@@ -112,17 +112,21 @@ def answer(program, folder, text, lasso):
     return done.returncode, done.stdout, done.stderr
 
 
-def main():
+def asked(count):
+    """What the words of a test ask for: the program, how many cases, and the source of chance."""
     words = argparse.ArgumentParser()
-    words.add_argument("--count", type=int, default=400)
+    words.add_argument("--count", type=int, default=count)
     words.add_argument("--seed", type=int, default=1)
     words.add_argument("program")
     words = words.parse_args()
-    program = os.path.abspath(words.program)
-    chance = random.Random(words.seed)
+    return os.path.abspath(words.program), words.count, random.Random(words.seed)
+
+
+def main():
+    program, count, chance = asked(400)
     differ = held = 0
     with tempfile.TemporaryDirectory() as folder:
-        for number in range(words.count):
+        for number in range(count):
             text, lasso, holds = case(chance)
             held += holds
             wanted = (0, b"HOLDS\n", b"") if holds else (40, b"FAILS\n", b"")
@@ -130,7 +134,7 @@ def main():
             if got != wanted:
                 differ += 1
                 print("case %d: %r in place of %r\n%s%s" % (number, got, wanted, text, lasso))
-    print("%d random formulas on lassos, %d hold, %d differ" % (words.count, held, differ))
+    print("%d random formulas on lassos, %d hold, %d differ" % (count, held, differ))
     sys.exit(1 if differ else 0)
 
 

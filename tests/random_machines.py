@@ -10,14 +10,12 @@ For each machine that `synth` prints:
   meaning that random_eval.py computes.
 """
 
-import argparse
 import os
-import random
 import subprocess
 import sys
 import tempfile
 
-from random_eval import SECTIONS, SIGNALS, formula, positions, spelled, whole
+from random_eval import SECTIONS, SIGNALS, asked, formula, positions, spelled, whole
 
 INPUTS = 2
 
@@ -107,16 +105,10 @@ def faults(program, folder, text, tree, chance):
 
 
 def main():
-    words = argparse.ArgumentParser()
-    words.add_argument("--count", type=int, default=300)
-    words.add_argument("--seed", type=int, default=1)
-    words.add_argument("program")
-    words = words.parse_args()
-    program = os.path.abspath(words.program)
-    chance = random.Random(words.seed)
+    program, count, chance = asked(300)
     counts, differ = {}, 0
     with tempfile.TemporaryDirectory() as folder:
-        for _ in range(words.count):
+        for _ in range(count):
             text, tree = specification(chance)
             status, found = faults(program, folder, text, tree, chance)
             counts[status] = counts.get(status, 0) + 1
@@ -124,7 +116,7 @@ def main():
                 differ += 1
                 print("\n".join([text, *found]))
     spread = ", ".join("%d of status %d" % (counts[status], status) for status in sorted(counts))
-    print("%d random specifications: %s; %d differ" % (words.count, spread, differ))
+    print("%d random specifications: %s; %d differ" % (count, spread, differ))
     sys.exit(1 if differ else 0)
 
 
