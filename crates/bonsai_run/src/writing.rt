@@ -1,6 +1,6 @@
 //! What goes out: the lines of an answer, and the line of a fault. Nothing here takes memory.
 
-ghost use Rattle.std.specs.Prelude.{◌≡◌, ◌<◌, ◌≤◌, ◌++◌, ℕ, decimal, length};
+ghost use Rattle.std.specs.Prelude.{◌≡◌, ◌<◌, ◌≤◌, ◌++◌, ℕ, codes, decimal, length};
 ghost use Rattle.bonsai_run.specs.Faults.{status_of, fault_text, numbered_text};
 ghost use Rattle.bonsai_run.specs.Writing.{Writes, Tells};
 
@@ -51,12 +51,7 @@ fn write_fault<E: Sink>(err: &mut E, fault: Fault, name: &[u8], other: &[u8]) ->
         Fault::Unwritten => write_line(err, b"bonsai: cannot write\n"),
         Fault::Usage => write_line(err, USAGE),
         Fault::Unread(source) => {
-            write_three(
-                err,
-                b"bonsai: cannot read ",
-                named(name, other, source),
-                b"\n",
-            )
+            write_named(err, b"bonsai: cannot read ", named(name, other, source))
         }
         Fault::Text { what, place } => {
             write_numbered(err, name, b": byte ", place as u64, fault_words(what))
@@ -77,12 +72,7 @@ fn write_fault<E: Sink>(err: &mut E, fault: Fault, name: &[u8], other: &[u8]) ->
             )
         }
         Fault::Length(source) => {
-            write_three(
-                err,
-                b"bonsai: limit: length ",
-                named(name, other, source),
-                b"\n",
-            )
+            write_named(err, b"bonsai: limit: length ", named(name, other, source))
         }
         Fault::Formulas => write_line(err, b"bonsai: limit: formulas\n"),
         Fault::Covers => write_line(err, b"bonsai: limit: covers\n"),
@@ -105,6 +95,13 @@ fn write_three<E: Sink>(err: &mut E, a: &[u8], b: &[u8], c: &[u8]) -> Result<(),
     write_line(err, a)?;
     write_line(err, b)?;
     write_line(err, c)
+}
+
+/// Writes a line that ends with a name.
+fn write_named<E: Sink>(err: &mut E, before: &[u8], name: &[u8]) -> Result<(), Failed>
+    ensures { Writes (E.written err.old) (E.written err.new) (E.faults err.old) (E.faults err.new) (before.now ++ (name.now ++ codes "\n")) result }
+{
+    write_three(err, before, name, b"\n")
 }
 
 /// Writes a line that begins with a name and tells a number.

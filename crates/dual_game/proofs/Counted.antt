@@ -22,7 +22,7 @@ use Rattle.game_form.specs.Game as game
 use Rattle.game_form.specs.Game.{GameData, IsGame, lanes, action_at, action_of, row_at, own_width, other_width}
 use Rattle.game_form.specs.Vector.{lane, vector, number, brought, arrived, successor, bound, begins, initial}
 use Rattle.game_form.specs.Held.{after, InBound, IsMachineOf, KeepsFrom}
-use Rattle.dual_game.specs.Counting.{Counts, CountingIsSound}
+use Rattle.dual_game.specs.Counting.{Counts, CountingIsSound, IsRunTo, end_of}
 use Rattle.action_groups.specs.Numbers.{mark_number}
 use Rattle.action_groups.specs.Rows.{edge_number, HasRows}
 
@@ -85,7 +85,7 @@ brings k c d (pos n) (suc r) h l = lifted (min (k + 1) (c + d)) (min (k + 1) (n 
     sums : min (k + 1) c ≤ n → min (k + 1) (c + d) ≤ min (k + 1) (n + r)
     sums h = omega arith
 
-letter_again : (player : Player) (inputs x : ℕ) → letter_of player inputs (move_of player inputs x) ≡ x
+pub letter_again : (player : Player) (inputs x : ℕ) → letter_of player inputs (move_of player inputs x) ≡ x
 letter_again System inputs x = div-add-mod' x (2 ^ inputs)
 letter_again Environment inputs x = div-add-mod' x (2 ^ inputs)
 
@@ -109,8 +109,29 @@ lane_successor g act v p lt =
     let size = length_successor g act v in
     get_or-map-range_with_len (arrived (bound g) (action_at g act) v) 0 (lanes g) p p (pos 0) (omega arith) (omega arith)
 
-module _ (a : AutomatonData) (g : GameData) (m : MachineData) (known : IsGame g) (well : IsAutomaton a) (is : IsMachine m) (rows : HasRows a g) (lanes_are : lanes g ≡ length a.states)
-    (owns : own_of m ≡ own_width g) (others : other_of m ≡ other_width g) (player : m.player ≡ g.player) (inputs : m.inputs ≡ g.inputs) where
+-- the moves of letters
+abbrev pub moves_of : GameData → List ℕ → List Move
+moves_of g letters = map (move_of g.player g.inputs) letters
+
+-- no valuation has a bit past its side's signals
+pub record IsInGame (g : GameData) (x : ℕ) : Type 0 where
+  pub own : (move_of g.player g.inputs x).own < 2 ^ own_width g
+  pub other : (move_of g.player g.inputs x).other < 2 ^ other_width g
+
+-- the number of a lane at the beginning
+pub lane_initial : (g : GameData) (p : ℕ) → p < lanes g → lane (initial g) p ≡ begins g.init p
+lane_initial g p in_p = get_or-map-range_with_len (begins g.init) 0 (lanes g) p p (pos 0) in_p (omega arith)
+
+pub length_initial : (g : GameData) → length (initial g) ≡ lanes g
+length_initial g = length-map-range_with_len (begins g.init) 0 (lanes g)
+
+pub begins_here : (q : ℕ) → begins (Some q) q ≡ pos 0
+begins_here q = subst (λ b. cond b (pos 0) (negsuc 0) ≡ pos 0) (sym (same q)) refl
+  where
+    same : (n : ℕ) → nat_eq n n ≡ true
+    same n = grind (arith)
+
+module _ (a : AutomatonData) (g : GameData) (known : IsGame g) (well : IsAutomaton a) (rows : HasRows a g) (lanes_are : lanes g ≡ length a.states) where
   -- a lane has a count, up to the bound and one more
   abbrev HasCount : List ℤ → ℕ → ℕ → Type 0
   HasCount v q c = pos (min (bound g + 1) c) ≤ℤ lane v q
@@ -140,29 +161,23 @@ module _ (a : AutomatonData) (g : GameData) (m : MachineData) (known : IsGame g)
           subst (λ n. suc (mark e) ≤ n) (sym number_is)
           (subst (λ n. n ≤ edge_number (edges_at a q) x e.next) (number_of_mark e.marked) (edge_counts (edges_at a q) e x edge.0 edge.1 edge.2 held))
 
-  abbrev moves_of : List ℕ → List Move
-  moves_of letters = map (move_of m.player m.inputs) letters
-
   -- where a run leads, the lane has the run's count
-  counted : (letters : List ℕ) (edges : List Edge) (s q c : ℕ) (v : List ℤ) → s < length m.states → q < length a.states → length v ≡ lanes g → HasCount v q c → IsPlayFrom m s (moves_of letters) → IsRunFrom a q letters edges
-      → (p : ℕ) × (p < length a.states) × (length (after g v (moves_of letters)) ≡ lanes g) × HasCount (after g v (moves_of letters)) p (c + count edges)
-  counted [] [] s q c v in_s in_q long has play run = (q, in_q, long, subst (λ n. HasCount v q n) (unary c) has)
+  pub counted : (letters : List ℕ) (edges : List Edge) (q c : ℕ) (v : List ℤ) → All (IsInGame g) letters → q < length a.states → length v ≡ lanes g → HasCount v q c → IsRunFrom a q letters edges
+      → (end_of q edges < length a.states) × (length (after g v (moves_of g letters)) ≡ lanes g) × HasCount (after g v (moves_of g letters)) (end_of q edges) (c + count edges)
+  counted [] [] q c v inside in_q long has run = (in_q, long, subst (λ n. HasCount v q n) (unary c) has)
     where
       unary : (c : ℕ) → c ≡ c + 0
       unary c = omega arith
-  counted [] (e ∷ edges) s q c v in_s in_q long has play run = absurd run
-  counted (x ∷ letters) [] s q c v in_s in_q long has play run = absurd run
-  counted (x ∷ letters) (e ∷ edges) s q c v in_s in_q long has play run =
-      let move = move_of m.player m.inputs x in
-      let found = decided (IsLine (own_of m) (other_of m) (length m.states)) (lines_at m s) move.other (λ l. (move.own ≡ l.own) × IsPlayFrom m l.next (moves_of letters)) (is.ranged s [] in_s) play.1 in
-      let in_own : move.own < 2 ^ own_width g = subst (λ w. move.own < 2 ^ w) owns (subst (λ o. o < 2 ^ own_of m) (sym found.2.0) found.1.1) in
-      let in_other : move.other < 2 ^ other_width g = subst (λ w. move.other < 2 ^ w) others play.0 in
-      let x_is : x ≡ letter_of g.player g.inputs move =
-      sym (letter_again m.player m.inputs x) ∙ ap (λ p. letter_of p m.inputs move) player ∙ ap (λ i. letter_of g.player i move) inputs in
+  counted [] (e ∷ edges) q c v inside in_q long has run = absurd run
+  counted (x ∷ letters) [] q c v inside in_q long has run = absurd run
+  counted (x ∷ letters) (e ∷ edges) q c v inside in_q long has run =
+      let move = move_of g.player g.inputs x in
+      let in_move : IsInGame g x = inside 0 x (omega arith) in
       let in_next : e.next < length a.states = (edge_within q e in_q run.0).1 in
       let act = action_of g move.own move.other in
-      let rest = counted letters edges found.0.next e.next (c + mark e) (successor g act v) found.1.2 in_next (length_successor g act v) (stepped v q c e move.own move.other x x_is in_own in_other long in_q in_next has run.0 run.1) found.2.1 run.2 in
-      (rest.0, rest.1, rest.2, subst (λ n. HasCount (after g (successor g act v) (moves_of letters)) rest.0 n) (sums c (mark e) (count edges)) rest.3)
+      let rest = counted letters edges e.next (c + mark e) (successor g act v) (λ k d lt. inside (suc k) d (omega arith)) in_next (length_successor g act v)
+      (stepped v q c e move.own move.other x (sym (letter_again g.player g.inputs x)) in_move.own in_move.other long in_q in_next has run.0 run.1) run.2 in
+      (rest.0, rest.1, subst (λ n. HasCount (after g (successor g act v) (moves_of g letters)) (end_of e.next edges) n) (sums c (mark e) (count edges)) rest.2)
     where
       sums : (c d n : ℕ) → (c + d) + n ≡ c + (d + n)
       sums c d n = omega arith
@@ -170,54 +185,82 @@ module _ (a : AutomatonData) (g : GameData) (m : MachineData) (known : IsGame g)
       edge_within : (q : ℕ) (e : Edge) → q < length a.states → Contains (edges_at a q) e → IsEdge a.signals (length a.states) e
       edge_within q e in_q edge = subst (IsEdge a.signals (length a.states)) edge.2 (well.ranged q [] in_q edge.0 e edge.1)
 
-  pub keeps_count : (k : ℕ) → g.k ≡ pos k → g.init ≡ a.init → KeepsFrom g m 0 (initial g) → Keeps a m k
-  keeps_count k bounded begun keeps letters edges play run = ends a.init refl run
+  -- after letters the lane in which a run ends has at least its count
+  pub counted_from_first : (begun : g.init ≡ a.init) (letters : List ℕ) (edges : List Edge) (p : ℕ) → All (IsInGame g) letters → IsRunTo a letters p edges
+      → (p < lanes g) × (length (after g (initial g) (moves_of g letters)) ≡ lanes g) × HasCount (after g (initial g) (moves_of g letters)) p (count edges)
+  counted_from_first begun letters edges p inside run = from a.init refl run
     where
-      low : (n : ℕ) → pos (min (bound g + 1) n) ≤ℤ g.k → n ≤ k
-      low n h = small (bound g) k n (ap size bounded) (subst (λ z. pos (min (bound g + 1) n) ≤ℤ z) bounded h)
-        where
-          size : ℤ → ℕ
-          size (pos n) = n
-          size (negsuc n) = 0
+      zero_least : (n : ℕ) → pos (min n 0) ≤ℤ pos 0
+      zero_least n = grind (arith, ints)
 
-          small : (b k n : ℕ) → b ≡ k → pos (min (b + 1) n) ≤ℤ pos k → n ≤ k
-          small b k n e h = grind (arith, ints)
+      from_zero : (n : ℕ) → 0 + n ≡ n
+      from_zero n = omega arith
 
-      ends : (i : Option ℕ) → a.init ≡ i → IsSomeAnd i (λ q. IsRunFrom a q letters edges) → count edges ≤ k
-      ends None e h = absurd h
-      ends (Some q) e h =
+      from : (i : Option ℕ) → a.init ≡ i → IsSomeAnd i (λ q. IsRunFrom a q letters edges × (end_of q edges ≡ p))
+          → (p < lanes g) × (length (after g (initial g) (moves_of g letters)) ≡ lanes g) × HasCount (after g (initial g) (moves_of g letters)) p (count edges)
+      from None e h = absurd h
+      from (Some q) e h =
           let in_q : q < length a.states = subst (λ i. IfSome i (λ q. q < length a.states)) e well.begins in
-          let begins_is : g.init ≡ Some q = begun ∙ e in
-          let first : HasCount (initial g) q 0 = subst (λ z. pos (min (bound g + 1) 0) ≤ℤ z) (sym (lane_initial q begins_is in_q)) (zero_least (bound g + 1)) in
-          let r = counted letters edges 0 q 0 (initial g) is.begins in_q (length-map-range_with_len (begins g.init) 0 (lanes g)) first play h in
-          low (count edges) (at_most _ _ _ (subst (λ n. pos (min (bound g + 1) n) ≤ℤ lane (after g (initial g) (moves_of letters)) r.0) (from_zero (count edges)) r.3) (keeps (moves_of letters) play r.0 (subst (λ n. r.0 < n) (sym (r.2 ∙ lanes_are)) r.1)))
-        where
-          from_zero : (n : ℕ) → 0 + n ≡ n
-          from_zero n = omega arith
+          let lane_is : lane (initial g) q ≡ pos 0 = lane_initial g q (subst (λ n. q < n) (sym lanes_are) in_q) ∙ ap (λ i. begins i q) (begun ∙ e) ∙ begins_here q in
+          let first : HasCount (initial g) q 0 = subst (λ z. pos (min (bound g + 1) 0) ≤ℤ z) (sym lane_is) (zero_least (bound g + 1)) in
+          let r = counted letters edges q 0 (initial g) inside in_q (length_initial g) first h.0 in
+          (subst (λ n. n < lanes g) h.1 (subst (λ n. end_of q edges < n) (sym lanes_are) r.0), r.1,
+          subst (λ n. HasCount (after g (initial g) (moves_of g letters)) n (count edges)) h.1 (subst (λ n. HasCount (after g (initial g) (moves_of g letters)) (end_of q edges) n) (from_zero (count edges)) r.2))
 
-          at_most : (x y z : ℤ) → x ≤ℤ y → y ≤ℤ z → x ≤ℤ z
-          at_most x y z h k = grind (arith, ints)
+module _ (g : GameData) (m : MachineData) (is : IsMachine m) (owns : own_of m ≡ own_width g) (others : other_of m ≡ other_width g) (player : m.player ≡ g.player) (inputs : m.inputs ≡ g.inputs) where
+  pub same_moves : (letters : List ℕ) → map (move_of m.player m.inputs) letters ≡ moves_of g letters
+  same_moves letters = ap (λ p. map (move_of p m.inputs) letters) player ∙ ap (λ i. map (move_of g.player i) letters) inputs
 
-          zero_least : (n : ℕ) → pos (min n 0) ≤ℤ pos 0
-          zero_least n = grind (arith, ints)
+  -- the letters of a play are the game's
+  pub played_inside : (letters : List ℕ) (s : ℕ) → s < length m.states → IsPlayFrom m s (moves_of g letters) → All (IsInGame g) letters
+  played_inside [] s in_s play k d lt = absurd (omega arith)
+  played_inside (x ∷ letters) s in_s play = both here (played_inside letters found.0.next found.1.2 found.2.1)
+    where
+      move : Move
+      move = move_of g.player g.inputs x
 
-          lane_initial : (q : ℕ) → g.init ≡ Some q → q < length a.states → lane (initial g) q ≡ pos 0
-          lane_initial q is lt =
-              let size = length-map-range_with_len (begins g.init) 0 (lanes g) in
-              get_or-map-range_with_len (begins g.init) 0 (lanes g) q q (pos 0) (omega arith) (omega (arith, lanes_are)) ∙ ap (λ i. begins i q) is ∙ here q
-            where
-              here : (q : ℕ) → begins (Some q) q ≡ pos 0
-              here q = subst (λ b. cond b (pos 0) (negsuc 0) ≡ pos 0) (sym (same q)) refl
-                where
-                  same : (n : ℕ) → nat_eq n n ≡ true
-                  same n = grind (arith)
+      found : (l : Line) × IsLine (own_of m) (other_of m) (length m.states) l × ((move.own ≡ l.own) × IsPlayFrom m l.next (moves_of g letters))
+      found = decided (IsLine (own_of m) (other_of m) (length m.states)) (lines_at m s) move.other (λ l. (move.own ≡ l.own) × IsPlayFrom m l.next (moves_of g letters)) (is.ranged s [] in_s) play.1
+
+      here : IsInGame g x
+      here = record {
+        own = subst (λ w. move.own < 2 ^ w) owns (subst (λ o. o < 2 ^ own_of m) (sym found.2.0) found.1.1);
+        other = subst (λ w. move.other < 2 ^ w) others play.0;
+      }
+
+      both : IsInGame g x → All (IsInGame g) letters → All (IsInGame g) (x ∷ letters)
+      both h t zero d lt = h
+      both h t (suc k) d lt = t k d (omega arith)
 
 pub counting_is_sound : CountingIsSound
-counting_is_sound a g m k counts bounded fits keeps =
-    keeps_count a g m counts.game counts.automaton fits.machine counts.rows counts.lanes_are owns others fits.player fits.inputs k bounded counts.first keeps
+counting_is_sound a g m k counts bounded fits keeps letters edges play run = by a.init refl run
   where
     owns : own_of m ≡ own_width g
     owns = rw (fits.player, fits.inputs, fits.outputs) refl
 
     others : other_of m ≡ other_width g
     others = rw (fits.player, fits.inputs, fits.outputs) refl
+
+    moves_play : IsPlayFrom m 0 (moves_of g letters)
+    moves_play = subst (IsPlayFrom m 0) (same_moves g m fits.machine owns others fits.player fits.inputs letters) play
+
+    at_most : (x y z : ℤ) → x ≤ℤ y → y ≤ℤ z → x ≤ℤ z
+    at_most x y z h k = grind (arith, ints)
+
+    low : (n : ℕ) → pos (min (bound g + 1) n) ≤ℤ g.k → n ≤ k
+    low n h = small (bound g) k n (ap size bounded) (subst (λ z. pos (min (bound g + 1) n) ≤ℤ z) bounded h)
+      where
+        size : ℤ → ℕ
+        size (pos n) = n
+        size (negsuc n) = 0
+
+        small : (b k n : ℕ) → b ≡ k → pos (min (b + 1) n) ≤ℤ pos k → n ≤ k
+        small b k n e h = grind (arith, ints)
+
+    by : (i : Option ℕ) → a.init ≡ i → IsSomeAnd i (λ q. IsRunFrom a q letters edges) → count edges ≤ k
+    by None e h = absurd h
+    by (Some q) e h =
+        let inside = played_inside g m fits.machine owns others fits.player fits.inputs letters 0 fits.machine.begins moves_play in
+        let to : IsRunTo a letters (end_of q edges) edges = subst (λ i. IsSomeAnd i (λ q'. IsRunFrom a q' letters edges × (end_of q' edges ≡ end_of q edges))) (sym e) (h, refl) in
+        let r = counted_from_first a g counts.game counts.automaton counts.rows counts.lanes_are counts.first letters edges (end_of q edges) inside to in
+        low (count edges) (at_most _ _ _ r.2 (keeps (moves_of g letters) moves_play (end_of q edges) (subst (λ n. end_of q edges < n) (sym r.1) r.0)))

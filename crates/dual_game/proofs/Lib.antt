@@ -10,9 +10,11 @@ pub mod OneAutomaton
 mod OneForm
 mod OneList
 pub mod OneWinner
+mod Places
 mod Reached
 mod SameMachine
 mod Shadow
 mod Shared
 pub mod Tried
+mod Valuations
 mod Weaker

@@ -17,6 +17,7 @@ use Rattle.word_core.specs.Cube.{holds}
 use Rattle.word_core.specs.Lasso.{LassoData, letter_at, bits_of, bits_at, prefix}
 use Rattle.word_core.specs.Machine.{MachineData, IsMachine, IsLine, IsDecided, HasOneOwn, choice, lines_at, own_of, other_of, own_width, other_width}
 use Rattle.word_core.specs.Play.{Move, letter_of, move_of, IsPlayFrom, IsPlay, IsLassoPlay}
+use Rattle.dual_game.specs.Plays.{Opposed, MeetOnce, PlaysMeetOnce}
 
 false≢true : false ≡ true → ⊥
 false≢true e = cc
@@ -92,7 +93,7 @@ pigeon (suc n) f below = by (searched (λ i. nat_eq (f i) (f (suc n))) (suc n)) 
             go (inr c) (inr d) = omega (arith, c.1, d.1, e)
 
 -- the chosen line is one of the lines
-chosen_in : (P : Line → Type 0) (lines : List Line) (x : ℕ) (l : Line) → All P lines → choice lines x ≡ Some l → (i : ℕ) × (i < length lines) × (get_or lines i l ≡ l) × P l
+pub chosen_in : (P : Line → Type 0) (lines : List Line) (x : ℕ) (l : Line) → All P lines → choice lines x ≡ Some l → (i : ℕ) × (i < length lines) × (get_or lines i l ≡ l) × P l
 chosen_in P lines x l all e =
     let r = found lines e in
     (r.0, r.1, r.2, subst P r.2 (All-get_or P lines r.0 l r.1 all))
@@ -123,7 +124,7 @@ or_none (Some l) = l
 line_of : List Line → ℕ → Line
 line_of lines x = or_none (choice lines x)
 
-opposite : Player → Player
+unfoldable pub opposite : Player → Player
 opposite System = Environment
 opposite Environment = System
 
@@ -133,19 +134,10 @@ move_again System inputs outputs own other in_own in_other = rw (div-mul-add own
 move_again Environment inputs outputs own other in_own in_other = rw (div-mul-add other (2 ^ inputs) own in_own, mod-mul-add other (2 ^ inputs) own in_own) refl
 
 -- each player sees the other's sides exchanged
-turned : (p q : Player) (inputs x : ℕ) → (p ≡ System × q ≡ Environment) ⊎ (p ≡ Environment × q ≡ System)
+pub turned : (p q : Player) (inputs x : ℕ) → (p ≡ System × q ≡ Environment) ⊎ (p ≡ Environment × q ≡ System)
     → move_of p inputs x ≡ record { own = (move_of q inputs x).other; other = (move_of q inputs x).own }
 turned p q inputs x (inl h) = rw (h.0, h.1) refl
 turned p q inputs x (inr h) = rw (h.0, h.1) refl
-
--- f moves first and g second, for the two sides of the same signals
-pub record Opposed (f g : MachineData) : Type 0 where
-  pub first : IsMachine f
-  pub second : IsMachine g
-  pub first_kind : f.kind ≡ First
-  pub players : (f.player ≡ System × g.player ≡ Environment) ⊎ (f.player ≡ Environment × g.player ≡ System)
-  pub inputs : f.inputs ≡ g.inputs
-  pub outputs : f.outputs ≡ g.outputs
 
 -- what a decided state answers
 module _ (m : MachineData) (is : IsMachine m) (s x : ℕ) (in_s : s < length m.states) (in_x : x < 2 ^ other_of m) where
@@ -184,6 +176,15 @@ one_own m is first s x y in_s in_x in_y =
     let one : HasOneOwn lines = All-get_or HasOneOwn m.states s [] in_s (is.first first) in
     let other : get_or lines q.0 d ≡ line_of lines y = get_or_default lines q.0 d (line_of lines y) q.1 ∙ q.2 in
     ap (λ (l : Line). l.own) (sym p.2) ∙ one d p.0 q.0 p.1 q.1 ∙ ap (λ (l : Line). l.own) other
+
+-- the line that a play takes
+taken_line : (lines : List Line) (x : ℕ) (Q : Line → Type 0) → MatchOption (choice lines x) ⊥ Q → Q (line_of lines x)
+unfolding line_of or_none
+taken_line lines x Q h = by (choice lines x) h
+  where
+    by : (o : Option Line) → MatchOption o ⊥ Q → Q (or_none o)
+    by None h = absurd h
+    by (Some l) h = h
 
 module _ (f g : MachineData) (opposed : Opposed f g) where
   own_first : own_of f ≡ other_of g
@@ -394,8 +395,37 @@ module _ (f g : MachineData) (opposed : Opposed f g) where
       λ n. subst (λ xs. IsPlay g xs) (sym (prefix_is n)) (plays_second 0 n),
     )
 
-  pub meeting : (w : LassoData) × (0 < length w.cycle) × IsLassoPlay f w × IsLassoPlay g w
-  unfolding lasso
+  -- a letter is that of its move
+  letter_again_of : (p : Player) (inputs x : ℕ) → letter_of p inputs (move_of p inputs x) ≡ x
+  letter_again_of System inputs x = div-add-mod' x (2 ^ inputs)
+  letter_again_of Environment inputs x = div-add-mod' x (2 ^ inputs)
+
+  -- from each moment on what both play are these letters
+  both_only : (letters' : List ℕ) (k : ℕ) → IsPlayFrom f (states k).1 (map (move_of f.player f.inputs) letters')
+      → IsPlayFrom g (states k).0 (map (move_of g.player g.inputs) letters') → letters' ≡ letters k (length letters')
+  unfolding letters states letter
+  both_only [] k by_first by_second = refl
+  both_only (x ∷ xs) k by_first by_second =
+      let s : ℕ = (states k).0 in
+      let t : ℕ = (states k).1 in
+      let v : Move = move_of f.player f.inputs x in
+      let w : Move = move_of g.player g.inputs x in
+      let turned_v : v ≡ record { own = w.other; other = w.own } = ap (λ i. move_of f.player i x) opposed.inputs ∙ turned f.player g.player g.inputs x opposed.players in
+      let one = taken_line (lines_at f t) v.other (λ l. (v.own ≡ l.own) × IsPlayFrom f l.next (map (move_of f.player f.inputs) xs)) by_first.1 in
+      let two = taken_line (lines_at g s) w.other (λ l. (w.own ≡ l.own) × IsPlayFrom g l.next (map (move_of g.player g.inputs) xs)) by_second.1 in
+      let does_so : w.other ≡ does t = ap (λ (u : Move). u.own) (sym turned_v) ∙ one.0 ∙ one_own f opposed.first opposed.first_kind t v.other 0 (within k).1 by_first.0 (some_valuation (other_of f)) in
+      let second_is : line_of (lines_at g s) w.other ≡ second_line s t = ap (λ o. line_of (lines_at g s) o) does_so in
+      let answers : w.own ≡ (second_line s t).own = two.0 ∙ ap (λ (l : Line). l.own) second_is in
+      let first_is : line_of (lines_at f t) v.other ≡ first_line s t = ap (λ (u : Move). line_of (lines_at f t) u.other) turned_v ∙ ap (λ o. line_of (lines_at f t) o) answers in
+      let move_is : w ≡ record { own = (second_line s t).own; other = does t } = ap (λ o. record { own = o; other = w.other }) answers ∙ ap (λ o. record { own = (second_line s t).own; other = o }) does_so in
+      let x_is : x ≡ letter k = sym (letter_again_of g.player g.inputs x) ∙ ap (letter_of g.player g.inputs) move_is in
+      let rest = both_only xs (suc k)
+      (subst (λ (l : Line). IsPlayFrom f l.next (map (move_of f.player f.inputs) xs)) first_is one.1)
+      (subst (λ (l : Line). IsPlayFrom g l.next (map (move_of g.player g.inputs) xs)) second_is two.1) in
+      ap (λ y. y ∷ xs) x_is ∙ ap (λ ys. letter k ∷ ys) rest
+
+  pub meeting : MeetOnce f g
+  unfolding lasso states
   meeting =
       let n : ℕ = length g.states * length f.states in
       let twice = pigeon n code (λ i l. code_within i) in
@@ -405,4 +435,13 @@ module _ (f g : MachineData) (opposed : Opposed f g) where
       let at : i + p ≡ twice.1 = omega (arith, twice.2) in
       let again : states (i + p) ≡ states i = ap states at ∙ sym (same_states i twice.1 twice.4) in
       let both = both_play i p some again in
-      (lasso i p some again, subst (λ k. 0 < k) (sym (length_letters i p)) some, both.0, both.1)
+      record {
+        word = lasso i p some again;
+        endless = subst (λ k. 0 < k) (sym (length_letters i p)) some;
+        first = both.0;
+        second = both.1;
+        only = λ xs by_first by_second. both_only xs 0 by_first by_second ∙ sym (prefix_is i p some again (length xs));
+      }
+
+pub plays_meet_once : PlaysMeetOnce
+plays_meet_once f g opposed = meeting f g opposed

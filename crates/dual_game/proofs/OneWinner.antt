@@ -13,7 +13,8 @@ use Rattle.word_core.specs.Run.{Keeps, Accepts, count}
 use Rattle.dual_game.specs.declared.games.Pair.{Pair}
 use Rattle.dual_game.specs.Games.{kind_of}
 use Rattle.dual_game.specs.Winning.{IsMachineFor, Wins, AreOpposed, OnlyOneWins, KeptIsRefused}
-use Rattle.dual_game.proofs.Meeting.{Opposed, meeting}
+use Rattle.dual_game.specs.Plays.{KeepsAbove, Opposed}
+use Rattle.dual_game.proofs.Meeting.{meeting}
 
 pub kept_is_refused : KeptIsRefused
 kept_is_refused a m w k keeps play accepts =
@@ -23,6 +24,9 @@ kept_is_refused a m w k keeps play accepts =
   where
     clash : {x y : ℕ} → x ≤ y → y < x → ⊥
     clash le less = omega arith
+
+pub keeps_above : KeepsAbove
+keeps_above a m j k le keeps letters edges play run = omega (arith, le, keeps letters edges play run)
 
 pub only_one_wins : OnlyOneWins
 only_one_wins pair names j k opposed s e = by names.target refl
@@ -42,7 +46,7 @@ only_one_wins pair names j k opposed s e = by names.target refl
           outputs = e.fits.outputs ∙ sym s.fits.outputs;
         } in
         let r = meeting e.machine s.machine both in
-        refuted r.0 r.1 r.3 r.2
+        refuted r.word r.endless r.second r.first
     by Moore is =
         let both : Opposed s.machine e.machine = record {
           first = s.fits.machine;
@@ -53,4 +57,4 @@ only_one_wins pair names j k opposed s e = by names.target refl
           outputs = s.fits.outputs ∙ sym e.fits.outputs;
         } in
         let r = meeting s.machine e.machine both in
-        refuted r.0 r.1 r.2 r.3
+        refuted r.word r.endless r.first r.second

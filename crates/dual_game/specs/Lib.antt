@@ -4,5 +4,6 @@ pub mod Counting
 pub mod Errors
 pub mod Games
 pub mod Machines
+pub mod Plays
 pub mod Tableaux
 pub mod Winning

@@ -1,14 +1,21 @@
 //! Laws that tie games to the automata that they count on.
 
 ghost use Rattle.dual_game.specs.Automata.{AutomatonIsOne};
-ghost use Rattle.dual_game.specs.Counting.{CountingIsSound, CountingIsExact};
+ghost use Rattle.dual_game.specs.Counting.{CountingIsSound, CountingIsExact, LanesAreCounts};
 ghost use Rattle.dual_game.specs.Machines.{HeldListIsOne};
+ghost use Rattle.dual_game.specs.Plays.{KeepsAbove, PlayIsOne, PlaysMeetOnce};
 ghost use Rattle.dual_game.specs.Winning.{KeptIsRefused, OnlyOneWins};
 
 /// A player of a specification has one automaton, or passes one limit, and not both. So what is said of a player's
 /// automaton is said of the one that is made.
 pub fn automaton_is_one()
     ensures { AutomatonIsOne }
+{}
+
+/// Lanes are greatest counts: after any letters a lane of a game is the smaller of the bound and one more and the greatest
+/// count of a run that ends in its state, or -1 where there is no such run.
+pub fn lanes_are_counts()
+    ensures { LanesAreCounts }
 {}
 
 /// Counting is sound: a machine that keeps every lane of a game at most at the bound, along all its plays, keeps the
@@ -26,6 +33,22 @@ pub fn counting_is_exact()
 /// A machine that keeps some bound on an automaton has no play that the automaton accepts.
 pub fn kept_is_refused()
     ensures { KeptIsRefused }
+{}
+
+/// A machine that keeps a bound keeps each greater one.
+pub fn keeps_above()
+    ensures { KeepsAbove }
+{}
+
+/// Two machines of opposite players, one of which moves first, have one unrolling in common as a play, and it is that of
+/// a lasso: each finite play of both is a prefix of it.
+pub fn plays_meet_once()
+    ensures { PlaysMeetOnce }
+{}
+
+/// Against a lasso of the other side's valuations a machine has one unrolling as a play, and it is that of a lasso.
+pub fn play_is_one()
+    ensures { PlayIsOne }
 {}
 
 /// Only one player wins: two machines of opposite players play one lasso together, and one of their automata accepts it.

@@ -1,12 +1,13 @@
 //! The board: the list of what is still possible, with marks.
 
-ghost use Rattle.std.specs.Prelude.{◌≡◌, ◌<◌, ◌%◌, ◌∷◌, [], false, replicate, IfNone, IfOk, length, MatchOption, MatchResult, not};
+ghost use Rattle.std.specs.Prelude.{◌≡◌, ◌<◌, ◌%◌, ◌∷◌, [], false, replicate, IfNone, IfOk, length, MatchOption, MatchResult, not, true};
 ghost use Rattle.antichain_list.specs.Antichain.{covered};
 ghost use Rattle.counter_vec.specs.Counters.{at_or_below};
 ghost use Rattle.cpre_step.specs.Refinement.{AreVectors};
 ghost use Rattle.game_form.specs.Covering.{CoversLetters};
 ghost use Rattle.game_form.specs.Held.{HasHeld};
 ghost use Rattle.game_form.specs.Letters.{HasLetters};
+ghost use Rattle.game_form.specs.Predecessor.{InPredecessor};
 ghost use Rattle.game_form.specs.Vector.{top, initial};
 
 use crate::commits::{exchange, holds_initial, place_of};
@@ -55,7 +56,7 @@ impl Model for Board {
 }
 
 impl Board {
-    ghost use Rattle.game_core.specs.Board.{CoversHeld, IsBoard, open_count, opened, job_of, mark_at};
+    ghost use Rattle.game_core.specs.Board.{CoversHeld, IsBoard, entry_at, open_count, opened, job_of, mark_at};
     ghost use Rattle.game_core.specs.Commit.{Commits};
     ghost use Rattle.game_core.specs.Solved.{IsClosed};
 
@@ -117,11 +118,14 @@ impl Board {
         &self.list
     }
 
-    /// Whether an entry is fresh.
+    /// Whether an entry is fresh. From a fresh entry the player can stay in the list.
     pub fn fresh(&self, i: usize) -> bool
         requires { i < length self.now.list }
-        ensures { result ≡ mark_at self.now.marks i }
+        ensures mark { result ≡ mark_at self.now.marks i }
+        ensures stays { result ≡ true → HasLetters self.now.game → InPredecessor self.now.game self.now.list (entry_at self.now.list i) }
     {
+        self.known();
+        self.game.known();
         self.marks[i]
     }
 

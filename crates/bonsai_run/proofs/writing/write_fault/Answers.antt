@@ -32,10 +32,10 @@ pub returns-in-NotFirst : goal.returns-in-NotFirst
 returns-in-NotFirst g c = told_as _ _ _ _ _ _ _ (NotFirst c.in-NotFirst.state) _ c.in-NotFirst.is c.write_numbered-in-NotFirst.ensures
 
 pub returns-in-Unread : goal.returns-in-Unread
-returns-in-Unread g c = told_as _ _ _ _ _ _ _ (Unread c.in-Unread.source) _ c.in-Unread.is (same_text _ _ _ _ _ _ _ (ap (λ w. codes "bonsai: cannot read " ++ w ++ codes "\n") c.named.ensures) c.write_three.ensures)
+returns-in-Unread g c = told_as _ _ _ _ _ _ _ (Unread c.in-Unread.source) _ c.in-Unread.is (same_text _ _ _ _ _ _ _ (ap (λ w. codes "bonsai: cannot read " ++ w ++ codes "\n") c.named.ensures) c.write_named.ensures)
 
 pub returns-in-Length : goal.returns-in-Length
-returns-in-Length g c = told_as _ _ _ _ _ _ _ (Length c.in-Length.source) _ c.in-Length.is (same_text _ _ _ _ _ _ _ (ap (λ w. codes "bonsai: limit: length " ++ w ++ codes "\n") c.named-in-Length.ensures) c.write_three-in-Length.ensures)
+returns-in-Length g c = told_as _ _ _ _ _ _ _ (Length c.in-Length.source) _ c.in-Length.is (same_text _ _ _ _ _ _ _ (ap (λ w. codes "bonsai: limit: length " ++ w ++ codes "\n") c.named-in-Length.ensures) c.write_named-in-Length.ensures)
 
 pub returns-in-Text : goal.returns-in-Text
 returns-in-Text g c = told_as _ _ _ _ _ _ _ (Text c.in-Text.what c.in-Text.place) _ c.in-Text.is (same_text _ _ _ _ _ _ _ (ap (λ w. numbered_text c.args.name.now (codes ": byte ") c.in-Text.place w) c.fault_words.ensures) c.write_numbered.ensures)
