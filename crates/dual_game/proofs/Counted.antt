@@ -1,5 +1,5 @@
 -- A machine that keeps each lane at most at the bound keeps the bound on the automaton whose numbers the game has.
-use Rattle.std.proofs.Common.{◌≡◌, ℕ, zero, suc, ◌+◌, ◌*◌, ◌/◌, ◌%◌, ◌^◌, ◌<◌, ◌≤◌, Bool, true, false, ◌&&◌, cond, min, max, nat_eq, List, [], ◌∷◌, length, map, get_or, Option, Some, None, refl, sym, ◌∙◌, ap, subst, arith}
+use Rattle.std.proofs.Common.{◌≡◌, ℕ, zero, suc, ◌+◌, ◌^◌, ◌<◌, ◌≤◌, Bool, true, false, ◌&&◌, cond, min, max, nat_eq, List, [], ◌∷◌, length, map, get_or, Option, Some, None, refl, sym, ◌∙◌, ap, subst, arith}
 use Rattle.std.specs.Prelude.{ℤ, pos, negsuc, ◌≤ℤ◌, if◌then◌else◌}
 use Rattle.std.specs.Int.{int_max}
 use Rattle.std.specs.Option.{IsSomeAnd, IfSome, MatchOption}
@@ -14,15 +14,15 @@ use Rattle.word_core.specs.declared.names.Player.TheVariants.{System, Environmen
 use Rattle.word_core.specs.Automaton.{AutomatonData, IsAutomaton, IsEdge, edges_at}
 use Rattle.word_core.specs.Cube.{holds}
 use Rattle.word_core.specs.Machine.{MachineData, IsMachine, IsLine, choice, lines_at, own_of, other_of}
-use Rattle.word_core.specs.Play.{Move, IsPlayFrom, IsPlay, letter_of, move_of}
+use Rattle.word_core.specs.Play.{Move, IsPlayFrom, letter_of, move_of}
 use Rattle.word_core.proofs.TreeLabels.{label_of-all}
-use Rattle.word_core.specs.Run.{IsRunFrom, IsRun, count, Keeps}
+use Rattle.word_core.specs.Run.{IsRunFrom, count}
 use Rattle.game_form.specs.declared.actions.Step.{Step}
 use Rattle.game_form.specs.Game as game
 use Rattle.game_form.specs.Game.{GameData, IsGame, lanes, action_at, action_of, row_at, own_width, other_width}
-use Rattle.game_form.specs.Vector.{lane, vector, number, brought, arrived, successor, bound, begins, initial}
-use Rattle.game_form.specs.Held.{after, InBound, IsMachineOf, KeepsFrom}
-use Rattle.dual_game.specs.Counting.{Counts, CountingIsSound, IsRunTo, end_of}
+use Rattle.game_form.specs.Vector.{lane, number, brought, arrived, successor, bound, begins, initial}
+use Rattle.game_form.specs.Held.{after}
+use Rattle.dual_game.specs.Counting.{CountingIsSound, IsRunTo, end_of}
 use Rattle.action_groups.specs.Numbers.{mark_number}
 use Rattle.action_groups.specs.Rows.{edge_number, HasRows}
 
@@ -213,7 +213,7 @@ module _ (g : GameData) (m : MachineData) (is : IsMachine m) (owns : own_of m �
 
   -- the letters of a play are the game's
   pub played_inside : (letters : List ℕ) (s : ℕ) → s < length m.states → IsPlayFrom m s (moves_of g letters) → All (IsInGame g) letters
-  played_inside [] s in_s play k d lt = absurd (omega arith)
+  played_inside [] s in_s play = λ k d lt. absurd (omega arith)
   played_inside (x ∷ letters) s in_s play = both here (played_inside letters found.0.next found.1.2 found.2.1)
     where
       move : Move

@@ -10,11 +10,11 @@ use Rattle.std.proofs.lemmas.List.{get_or_default}
 use Rattle.std.proofs.lemmas.List.Elements.{All-get_or}
 use Rattle.word_core.specs.declared.cubes.Letter.{Letter}
 use Rattle.word_core.specs.declared.machines.Line.{Line}
-use Rattle.word_core.specs.declared.names.Kind.TheVariants.{First, Second}
+use Rattle.word_core.specs.declared.names.Kind.TheVariants.{First}
 use Rattle.word_core.specs.declared.names.Player.{Player}
 use Rattle.word_core.specs.declared.names.Player.TheVariants.{System, Environment}
 use Rattle.word_core.specs.Cube.{holds}
-use Rattle.word_core.specs.Lasso.{LassoData, letter_at, bits_of, bits_at, prefix}
+use Rattle.word_core.specs.Lasso.{LassoData, bits_of, bits_at, prefix}
 use Rattle.word_core.specs.Machine.{MachineData, IsMachine, IsLine, IsDecided, HasOneOwn, choice, lines_at, own_of, other_of, own_width, other_width}
 use Rattle.word_core.specs.Play.{Move, letter_of, move_of, IsPlayFrom, IsPlay, IsLassoPlay}
 use Rattle.dual_game.specs.Plays.{Opposed, MeetOnce, PlaysMeetOnce}

@@ -3,29 +3,27 @@ use Rattle.std.proofs.Common.{◌≡◌, ℕ, zero, suc, ◌+◌, ◌*◌, ◌/�
 use Rattle.std.proofs.lemmas.Bool.{and_parts}
 use Rattle.std.specs.Prelude.{ℤ, pos, negsuc, ◌≤ℤ◌, if◌then◌else◌}
 use Rattle.std.specs.Int.{int_max}
-use Rattle.std.specs.Option.{IsSomeAnd, IfSome, MatchOption}
+use Rattle.std.specs.Option.{IsSomeAnd}
 use Rattle.std.specs.List.{All, Contains}
 use Rattle.std.proofs.lemmas.Int.{ints}
 use Rattle.std.proofs.lemmas.Nat.{div-mul-add, mod-mul-add, div_below, mod_below, pow-add, pow_pos}
-use Rattle.std.proofs.lemmas.List.FromFn.{get_or-map-range_with_len, length-map-range_with_len}
 use Rattle.word_core.specs.declared.automata.Edge.{Edge}
-use Rattle.word_core.specs.declared.machines.Line.{Line}
 use Rattle.word_core.specs.declared.names.Kind.TheVariants.{First}
 use Rattle.word_core.specs.declared.names.Player.{Player}
 use Rattle.word_core.specs.declared.names.Player.TheVariants.{System, Environment}
-use Rattle.word_core.specs.Automaton.{AutomatonData, IsAutomaton, IsEdge, edges_at}
+use Rattle.word_core.specs.Automaton.{AutomatonData, edges_at}
 use Rattle.word_core.specs.Cube.{holds}
-use Rattle.word_core.specs.Machine.{MachineData, IsMachine, IsLine, choice, lines_at, own_of, other_of}
-use Rattle.word_core.specs.Play.{Move, IsPlayFrom, IsPlay, letter_of, move_of}
-use Rattle.word_core.specs.Run.{IsRunFrom, IsRun, count, Keeps}
+use Rattle.word_core.specs.Machine.{MachineData, IsMachine, IsLine, lines_at, own_of, other_of}
+use Rattle.word_core.specs.Play.{Move, IsPlayFrom, letter_of, move_of}
+use Rattle.word_core.specs.Run.{IsRunFrom, count}
 use Rattle.game_form.specs.declared.actions.Step.{Step}
-use Rattle.game_form.specs.Game.{GameData, IsGame, lanes, action_at, action_of, row_at, own_width, other_width}
-use Rattle.game_form.specs.Vector.{lane, vector, number, brought, arrived, successor, bound, begins, initial}
-use Rattle.game_form.specs.Held.{after, InBound, IsMachineOf, KeepsFrom}
+use Rattle.game_form.specs.Game.{GameData, lanes, action_at, action_of, row_at, own_width, other_width}
+use Rattle.game_form.specs.Vector.{lane, number, brought, arrived, successor, bound, begins, initial}
+use Rattle.game_form.specs.Held.{after}
 use Rattle.action_groups.specs.Numbers.{mark_number}
 use Rattle.action_groups.specs.Rows.{edge_number, HasRows}
-use Rattle.dual_game.specs.Counting.{Counts, CountingIsExact, IsGreatestCount, IsRunTo, LanesAreCounts, end_of}
-use Rattle.dual_game.proofs.Counted.{IsInGame, begins_here, counted_from_first, decided, lane_initial, lane_successor, length_initial, length_successor, letter_again, mark, moves_of, number_of_mark, played_inside, same_moves}
+use Rattle.dual_game.specs.Counting.{CountingIsExact, IsGreatestCount, IsRunTo, LanesAreCounts, end_of}
+use Rattle.dual_game.proofs.Counted.{IsInGame, counted_from_first, decided, lane_initial, lane_successor, length_initial, length_successor, letter_again, mark, moves_of, number_of_mark, played_inside, same_moves}
 
 -- the greatest number is that of an edge
 pub record IsTaken (es : List Edge) (x p r : ℕ) : Type 0 where
@@ -276,12 +274,6 @@ lanes_are_counts a g k letters p counts bounded in_p within = by (lane (after g 
         let most : (edges : List Edge) → IsRunTo a letters p edges → min (k + 1) (count edges) ≤ n =
         λ edges run. lowered (min (k + 1) (count edges)) n (subst (λ z. pos (min (k + 1) (count edges)) ≤ℤ z) e (least edges run)) in
         ((r.0, r.1, meets (bound g) n (count r.0) bound_is (known.high n e) r.2 (most r.0 r.1)), most)
-
-move_again : (player : Player) (inputs outputs own other : ℕ) → own < 2 ^ own_of (record { player = player; kind = First; inputs = inputs; outputs = outputs; states = [] })
-    → other < 2 ^ other_of (record { player = player; kind = First; inputs = inputs; outputs = outputs; states = [] })
-    → move_of player inputs (letter_of player inputs (record { own = own; other = other })) ≡ record { own = own; other = other }
-move_again System inputs outputs own other in_own in_other = rw (div-mul-add own (2 ^ inputs) other in_other, mod-mul-add own (2 ^ inputs) other in_other) refl
-move_again Environment inputs outputs own other in_own in_other = rw (div-mul-add other (2 ^ inputs) own in_own, mod-mul-add other (2 ^ inputs) own in_own) refl
 
 -- the letters of a play are those of its moves
 again : (m : MachineData) → IsMachine m → (moves : List Move) (s : ℕ) → s < length m.states → IsPlayFrom m s moves → map (move_of m.player m.inputs) (map (letter_of m.player m.inputs) moves) ≡ moves

@@ -1,25 +1,25 @@
 -- A machine has one play against the valuations of a lasso: that with the machine which gives them one after another.
-use Rattle.std.proofs.Common.{◌≡◌, ℕ, zero, suc, ◌+◌, ◌-◌, ◌%◌, ◌^◌, ◌<◌, ◌≤◌, ◌⊎◌, Bool, true, false, if◌then◌else◌, nat_eq, nat_lt, List, [], ◌∷◌, ◌++◌, length, map, get_or, Option, Some, None, inl, inr, refl, sym, ◌∙◌, ap, subst, arith}
+use Rattle.std.proofs.Common.{◌≡◌, ℕ, zero, suc, ◌+◌, ◌-◌, ◌%◌, ◌^◌, ◌<◌, ◌⊎◌, Bool, true, false, if◌then◌else◌, nat_eq, nat_lt, List, [], ◌∷◌, ◌++◌, length, map, get_or, Some, None, inl, inr, refl, sym, ◌∙◌, ap, subst, arith}
 use borrow.Author.Tests.{ltb-true, ltb-false}
 use Rattle.std.specs.Int.Bits.{and_zero_r, and_zero_l}
-use Rattle.std.specs.Prelude.{slice_get, bit_and}
+use Rattle.std.specs.Prelude.{slice_get}
 use Rattle.std.specs.List.{All, range_with_len}
 use Rattle.std.specs.Option.{MatchOption, IsSome}
 use Rattle.std.proofs.lemmas.Nat.{pow_pos, mod_below}
 use Rattle.std.proofs.lemmas.List.FromFn.{get_or-map-range_with_len, length-map-range_with_len}
 use Rattle.word_core.specs.declared.cubes.Cube.{Cube}
 use Rattle.word_core.specs.declared.machines.Line.{Line}
-use Rattle.word_core.specs.declared.names.Kind.TheVariants.{First, Second}
+use Rattle.word_core.specs.declared.names.Kind.TheVariants.{First}
 use Rattle.word_core.specs.declared.names.Player.{Player}
 use Rattle.word_core.specs.declared.names.Player.TheVariants.{System, Environment}
 use Rattle.word_core.specs.Cube.{holds, IsCube}
-use Rattle.word_core.specs.Lasso.{LassoData, letter_at, bits_of, bits_at, prefix, size}
+use Rattle.word_core.specs.Lasso.{LassoData, bits_of, bits_at, prefix}
 use Rattle.word_core.specs.Machine.{MachineData, IsMachine, IsLine, IsDecided, HasOneOwn, choice, lines_at, own_of, other_of, own_width, other_width}
-use Rattle.word_core.specs.Play.{Move, letter_of, move_of, IsPlayFrom, IsPlay, IsLassoPlay}
-use Rattle.dual_game.specs.Plays.{Opposed, MeetOnce, IsPlayedOnce, PlayIsOne, others_in}
+use Rattle.word_core.specs.Play.{Move, move_of, IsPlayFrom}
+use Rattle.dual_game.specs.Plays.{Opposed, IsPlayedOnce, PlayIsOne, others_in}
 use Rattle.dual_game.proofs.Counted.{decided}
 use Rattle.dual_game.proofs.Meeting.{meeting, turned, opposite}
-use Rattle.dual_game.proofs.Places.{place, next_place, place_first, place_within, place_next, place_before, place_after, next_inside, chosen_below, chosen_above, small_mod}
+use Rattle.dual_game.proofs.Places.{place, next_place, place_first, place_within, place_next, place_before, place_after, next_inside, chosen_above, small_mod}
 
 any : Cube
 any = record { care = 0; want = 0 }
