@@ -5,7 +5,7 @@ use Rattle.std.specs.Int.{int_max}
 use Rattle.std.specs.Option.{IsSomeAnd, IfSome, MatchOption}
 use Rattle.std.specs.List.{All, Contains}
 use Rattle.std.proofs.lemmas.Int.{ints}
-use Rattle.std.proofs.lemmas.Nat.{div-add-mod'}
+use Rattle.std.proofs.lemmas.Nat.{div-add-mod', div-mul-add, mod-mul-add}
 use Rattle.std.proofs.lemmas.List.FromFn.{get_or-map-range_with_len, length-map-range_with_len}
 use Rattle.word_core.specs.declared.automata.Edge.{Edge}
 use Rattle.word_core.specs.declared.machines.Line.{Line}
@@ -13,6 +13,7 @@ use Rattle.word_core.specs.declared.names.Player.{Player}
 use Rattle.word_core.specs.declared.names.Player.TheVariants.{System, Environment}
 use Rattle.word_core.specs.Automaton.{AutomatonData, IsAutomaton, IsEdge, edges_at}
 use Rattle.word_core.specs.Cube.{holds}
+use Rattle.word_core.specs.Machine as machine
 use Rattle.word_core.specs.Machine.{MachineData, IsMachine, IsLine, choice, lines_at, own_of, other_of}
 use Rattle.word_core.specs.Play.{Move, IsPlayFrom, letter_of, move_of}
 use Rattle.word_core.proofs.TreeLabels.{label_of-all}
@@ -84,6 +85,12 @@ brings k c d (pos n) (suc r) h l = lifted (min (k + 1) (c + d)) (min (k + 1) (n 
 
     sums : min (k + 1) c ≤ n → min (k + 1) (c + d) ≤ min (k + 1) (n + r)
     sums h = omega arith
+
+-- the move of a letter of a move, and the letter of a move of a letter
+pub move_again : (p : Player) (inputs outputs own other : ℕ) → own < 2 ^ machine.own_width p inputs outputs → other < 2 ^ machine.other_width p inputs outputs
+    → move_of p inputs (letter_of p inputs (record { own = own; other = other })) ≡ record { own = own; other = other }
+move_again System inputs outputs own other in_own in_other = rw (div-mul-add own (2 ^ inputs) other in_other, mod-mul-add own (2 ^ inputs) other in_other) refl
+move_again Environment inputs outputs own other in_own in_other = rw (div-mul-add other (2 ^ inputs) own in_own, mod-mul-add other (2 ^ inputs) own in_own) refl
 
 pub letter_again : (player : Player) (inputs x : ℕ) → letter_of player inputs (move_of player inputs x) ≡ x
 letter_again System inputs x = div-add-mod' x (2 ^ inputs)

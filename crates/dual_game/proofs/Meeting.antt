@@ -15,9 +15,10 @@ use Rattle.word_core.specs.declared.names.Player.{Player}
 use Rattle.word_core.specs.declared.names.Player.TheVariants.{System, Environment}
 use Rattle.word_core.specs.Cube.{holds}
 use Rattle.word_core.specs.Lasso.{LassoData, bits_of, bits_at, prefix}
-use Rattle.word_core.specs.Machine.{MachineData, IsMachine, IsLine, IsDecided, HasOneOwn, choice, lines_at, own_of, other_of, own_width, other_width}
+use Rattle.word_core.specs.Machine.{MachineData, IsMachine, IsLine, IsDecided, HasOneOwn, choice, lines_at, own_of, other_of}
 use Rattle.word_core.specs.Play.{Move, letter_of, move_of, IsPlayFrom, IsPlay, IsLassoPlay}
 use Rattle.dual_game.specs.Plays.{Opposed, MeetOnce, PlaysMeetOnce}
+use Rattle.dual_game.proofs.Counted.{letter_again, move_again}
 
 false≢true : false ≡ true → ⊥
 false≢true e = cc
@@ -127,11 +128,6 @@ line_of lines x = or_none (choice lines x)
 unfoldable pub opposite : Player → Player
 opposite System = Environment
 opposite Environment = System
-
-move_again : (p : Player) (inputs outputs own other : ℕ) → own < 2 ^ own_width p inputs outputs → other < 2 ^ other_width p inputs outputs
-    → move_of p inputs (letter_of p inputs (record { own = own; other = other })) ≡ record { own = own; other = other }
-move_again System inputs outputs own other in_own in_other = rw (div-mul-add own (2 ^ inputs) other in_other, mod-mul-add own (2 ^ inputs) other in_other) refl
-move_again Environment inputs outputs own other in_own in_other = rw (div-mul-add other (2 ^ inputs) own in_own, mod-mul-add other (2 ^ inputs) own in_own) refl
 
 -- each player sees the other's sides exchanged
 pub turned : (p q : Player) (inputs x : ℕ) → (p ≡ System × q ≡ Environment) ⊎ (p ≡ Environment × q ≡ System)
@@ -329,14 +325,14 @@ module _ (f g : MachineData) (opposed : Opposed f g) where
       let b : suc (i + d) ≡ i + suc d = omega arith in
       ap states a ∙ ap (λ (q : ℕ × ℕ). ((second_line q.0 q.1).next, (first_line q.0 q.1).next)) (repeats i p d e) ∙ ap states b
 
-  letter_again : (i p d q : ℕ) → states (i + p) ≡ states i → letter (i + d + q * p) ≡ letter (i + d)
+  letter_repeats : (i p d q : ℕ) → states (i + p) ≡ states i → letter (i + d + q * p) ≡ letter (i + d)
   unfolding letter
-  letter_again i p d zero e = let a : i + d + 0 * p ≡ i + d = omega arith in ap letter a
-  letter_again i p d (suc q) e =
+  letter_repeats i p d zero e = let a : i + d + 0 * p ≡ i + d = omega arith in ap letter a
+  letter_repeats i p d (suc q) e =
       let a : i + d + suc q * p ≡ i + (d + q * p) + p = omega arith in
       let b : i + (d + q * p) ≡ i + d + q * p = omega arith in
       ap letter a ∙ ap (λ (s : ℕ × ℕ). letter_of g.player g.inputs (record { own = (second_line s.0 s.1).own; other = does s.1 })) (repeats i p (d + q * p) e)
-      ∙ ap letter b ∙ letter_again i p d q e
+      ∙ ap letter b ∙ letter_repeats i p d q e
 
   of_letters : List ℕ → List Letter
   of_letters xs = map (λ x. record { 0 = x }) xs
@@ -378,7 +374,7 @@ module _ (f g : MachineData) (opposed : Opposed f g) where
             let parts : q * p + r ≡ n - i = div-add-mod' (n - i) p in
             let is : i + r + q * p ≡ n = omega (arith, ltb-false n i l, parts) in
             whole ∙ ap (λ b. bits_of (if b then slice_get (of_letters (letters 0 i)) n else slice_get (of_letters (letters i p)) ((n - i) % p))) l
-            ∙ ap bits_of (letter_in i p r lr) ∙ sym (letter_again i p r q again) ∙ ap letter is
+            ∙ ap bits_of (letter_in i p r lr) ∙ sym (letter_repeats i p r q again) ∙ ap letter is
 
     prefix_is : (n : ℕ) → prefix lasso n ≡ letters 0 n
     unfolding letters
@@ -394,11 +390,6 @@ module _ (f g : MachineData) (opposed : Opposed f g) where
       λ n. subst (λ xs. IsPlay f xs) (sym (prefix_is n)) (plays_first 0 n),
       λ n. subst (λ xs. IsPlay g xs) (sym (prefix_is n)) (plays_second 0 n),
     )
-
-  -- a letter is that of its move
-  letter_again_of : (p : Player) (inputs x : ℕ) → letter_of p inputs (move_of p inputs x) ≡ x
-  letter_again_of System inputs x = div-add-mod' x (2 ^ inputs)
-  letter_again_of Environment inputs x = div-add-mod' x (2 ^ inputs)
 
   -- from each moment on what both play are these letters
   both_only : (letters' : List ℕ) (k : ℕ) → IsPlayFrom f (states k).1 (map (move_of f.player f.inputs) letters')
@@ -418,7 +409,7 @@ module _ (f g : MachineData) (opposed : Opposed f g) where
       let answers : w.own ≡ (second_line s t).own = two.0 ∙ ap (λ (l : Line). l.own) second_is in
       let first_is : line_of (lines_at f t) v.other ≡ first_line s t = ap (λ (u : Move). line_of (lines_at f t) u.other) turned_v ∙ ap (λ o. line_of (lines_at f t) o) answers in
       let move_is : w ≡ record { own = (second_line s t).own; other = does t } = ap (λ o. record { own = o; other = w.other }) answers ∙ ap (λ o. record { own = (second_line s t).own; other = o }) does_so in
-      let x_is : x ≡ letter k = sym (letter_again_of g.player g.inputs x) ∙ ap (letter_of g.player g.inputs) move_is in
+      let x_is : x ≡ letter k = sym (letter_again g.player g.inputs x) ∙ ap (letter_of g.player g.inputs) move_is in
       let rest = both_only xs (suc k)
       (subst (λ (l : Line). IsPlayFrom f l.next (map (move_of f.player f.inputs) xs)) first_is one.1)
       (subst (λ (l : Line). IsPlayFrom g l.next (map (move_of g.player g.inputs) xs)) second_is two.1) in

@@ -6,9 +6,8 @@ use Rattle.std.specs.Int.{int_max}
 use Rattle.std.specs.Option.{IsSomeAnd}
 use Rattle.std.specs.List.{All, Contains}
 use Rattle.std.proofs.lemmas.Int.{ints}
-use Rattle.std.proofs.lemmas.Nat.{div-mul-add, mod-mul-add, div_below, mod_below, pow-add, pow_pos}
+use Rattle.std.proofs.lemmas.Nat.{div_below, mod_below, pow-add, pow_pos}
 use Rattle.word_core.specs.declared.automata.Edge.{Edge}
-use Rattle.word_core.specs.declared.names.Kind.TheVariants.{First}
 use Rattle.word_core.specs.declared.names.Player.{Player}
 use Rattle.word_core.specs.declared.names.Player.TheVariants.{System, Environment}
 use Rattle.word_core.specs.Automaton.{AutomatonData, edges_at}
@@ -23,7 +22,7 @@ use Rattle.game_form.specs.Held.{after}
 use Rattle.action_groups.specs.Numbers.{mark_number}
 use Rattle.action_groups.specs.Rows.{edge_number, HasRows}
 use Rattle.dual_game.specs.Counting.{CountingIsExact, IsGreatestCount, IsRunTo, LanesAreCounts, end_of}
-use Rattle.dual_game.proofs.Counted.{IsInGame, counted_from_first, decided, lane_initial, lane_successor, length_initial, length_successor, letter_again, mark, moves_of, number_of_mark, played_inside, same_moves}
+use Rattle.dual_game.proofs.Counted.{IsInGame, counted_from_first, decided, lane_initial, lane_successor, length_initial, length_successor, letter_again, mark, move_again, moves_of, number_of_mark, played_inside, same_moves}
 
 -- the greatest number is that of an edge
 pub record IsTaken (es : List Edge) (x p r : ℕ) : Type 0 where
@@ -93,12 +92,6 @@ brought_from k (pos c) (suc r) n h = record { count = c; more = r; lane_is = ref
 
     small : (a n b : ℕ) → pos a ≡ pos n → a ≤ b → n ≤ b
     small a n b h l = grind (arith, ints)
-
-move_again : (player : Player) (inputs outputs own other : ℕ) → own < 2 ^ own_of (record { player = player; kind = First; inputs = inputs; outputs = outputs; states = [] })
-    → other < 2 ^ other_of (record { player = player; kind = First; inputs = inputs; outputs = outputs; states = [] })
-    → move_of player inputs (letter_of player inputs (record { own = own; other = other })) ≡ record { own = own; other = other }
-move_again System inputs outputs own other in_own in_other = rw (div-mul-add own (2 ^ inputs) other in_other, mod-mul-add own (2 ^ inputs) other in_other) refl
-move_again Environment inputs outputs own other in_own in_other = rw (div-mul-add other (2 ^ inputs) own in_own, mod-mul-add other (2 ^ inputs) own in_own) refl
 
 -- a number of a lane: from -1 to the bound and one more
 pub record IsLaneNumber (k : ℕ) (x : ℤ) : Type 0 where
