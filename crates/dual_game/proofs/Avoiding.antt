@@ -1,14 +1,11 @@
 -- The automata of normal forms are those of the specification, and so are their limits.
-use Rattle.std.proofs.Common.{◌≡◌, ◌∙◌, ℕ, ◌+◌, ◌<◌, ◌≤◌, ◌⊎◌, inl, inr, Bool, true, length, refl, sym, subst, arith}
-use Rattle.std.specs.Prelude.{◌↔◌, List, [], Result, Ok, Err, IfOk, IfErr, IsErrAnd}
+use Rattle.std.proofs.Common.{◌≡◌, ℕ, ◌<◌, ◌≤◌, inl, inr, true, length, refl, sym, subst, arith}
+use Rattle.std.specs.Prelude.{◌↔◌, List, Result, Ok, Err, IfOk, IfErr, IsErrAnd}
 use Rattle.ltl_form.specs.declared.normals.FormError.{FormError}
 use Rattle.ltl_form.specs.declared.normals.FormError.TheVariants as form
 use Rattle.ltl_form.specs.declared.normals.Node.{Node}
 use Rattle.ltl_form.specs.Meaning.{holds_at, tree_holds}
-use Rattle.ltl_form.specs.NodeTrees.{node_trees, formula_at}
-use Rattle.ltl_form.specs.Normal.{NormalData}
-use Rattle.ltl_form.specs.Numbered.{numbered}
-use Rattle.ltl_form.specs.Tree.{normal_tree}
+use Rattle.ltl_form.specs.NodeTrees.{formula_at}
 use Rattle.nba_trim.specs.Trimmed.{AcceptSame, IsTrimmed}
 use Rattle.tableau_nba.specs.declared.tableaux.TableauError.{TableauError}
 use Rattle.tableau_nba.specs.declared.tableaux.TableauError.TheVariants as tableau
@@ -24,7 +21,7 @@ use Rattle.word_core.specs.Lasso.{LassoData, size}
 use Rattle.word_core.specs.Run.{Accepts}
 use Rattle.dual_game.specs.declared.errors.GameError.{GameError}
 use Rattle.dual_game.specs.declared.errors.GameError.TheVariants.{TooManyFormulas, TooWide, TooManyStates, Memory}
-use Rattle.dual_game.specs.Automata.{avoided, avoids_truth, formula_count, IsAutomatonOf, IsNormalOf, HasTableau, HasWalkLimit, IsLimitOf, IsLimitOfPair}
+use Rattle.dual_game.specs.Automata.{avoided, formula_count, IsAutomatonOf, IsNormalOf, IsLimitOf, IsLimitOfPair}
 use Rattle.dual_game.specs.Errors.{of_form, of_tableau}
 use Rattle.dual_game.specs.Tableaux.{IsTrimmedTableau, IsTableauLimit}
 

@@ -1,6 +1,6 @@
 -- A game over an automaton that keeps what another one keeps decides who wins on that one.
-use Rattle.std.proofs.Common.{◌≡◌, ℕ, ◌+◌, ◌<◌, ◌≤◌, Bool, true, false, cond, nat_eq, List, length, Option, Some, None, refl, sym, ◌∙◌, ap, subst, arith}
-use Rattle.std.specs.Prelude.{ℤ, pos, negsuc, ◌≤ℤ◌}
+use Rattle.std.proofs.Common.{◌≡◌, ℕ, ◌<◌, ◌≤◌, Bool, true, false, cond, nat_eq, length, Option, Some, None, refl, sym, ◌∙◌, subst, arith}
+use Rattle.std.specs.Prelude.{pos, negsuc, ◌≤ℤ◌}
 use Rattle.std.proofs.lemmas.Int.{ints}
 use Rattle.std.proofs.lemmas.List.FromFn.{get_or-map-range_with_len, length-map-range_with_len}
 use Rattle.word_core.specs.declared.names.Names.{Names}
@@ -9,11 +9,11 @@ use Rattle.word_core.specs.Automaton.{AutomatonData, IsAutomaton}
 use Rattle.word_core.specs.Machine.{MachineData}
 use Rattle.word_core.specs.Run.{Keeps}
 use Rattle.game_form.specs.Game.{GameData, IsGame, lanes}
-use Rattle.game_form.specs.Held.{IsHeld, IsMachineOf, KeepsFrom}
+use Rattle.game_form.specs.Held.{IsMachineOf}
 use Rattle.game_form.specs.Vector.{IsVector, lane, begins, initial}
 use Rattle.dual_game.specs.Counting.{Counts}
 use Rattle.dual_game.specs.Games.{IsGameOf}
-use Rattle.dual_game.specs.Winning.{IsMachineFor, Wins, with_bound, Decides}
+use Rattle.dual_game.specs.Winning.{IsMachineFor, with_bound, Decides}
 use Rattle.dual_game.proofs.Counted.{counting_is_sound}
 use Rattle.dual_game.proofs.Reached.{counting_is_exact}
 

@@ -1,11 +1,10 @@
 -- A player of a specification has one automaton, or passes one limit.
-use Rattle.std.proofs.Common.{◌≡◌, ℕ, zero, suc, ◌+◌, ◌<◌, ◌≤◌, Bool, true, false, nat_lt, List, [], ◌∷◌, length, get_or, refl, sym, ◌∙◌, ap, subst, arith}
+use Rattle.std.proofs.Common.{◌≡◌, ℕ, suc, ◌<◌, ◌≤◌, Bool, true, false, nat_lt, List, [], ◌∷◌, length, refl, sym, ◌∙◌, ap, subst, arith}
 use borrow.Author.Tests.{ltb-true, ltb-false}
 use Rattle.std.specs.List.{AllPairs, Contains}
 use Rattle.std.proofs.lemmas.List.Elements.{All-contains, All-nil, Contains-get_or}
 use Rattle.std.proofs.lemmas.Map.Made.{Contains-tail}
 use Rattle.ltl_form.specs.declared.normals.Node.{Node}
-use Rattle.ltl_form.specs.NodeTrees.{node_trees}
 use Rattle.ltl_form.proofs.NodeLists.{node_trees-length}
 use Rattle.nba_trim.specs.Trimmed.{AreKept, IsTrimmed, restricted}
 use Rattle.tableau_nba.specs.Walks.{Outcome, Spot, all_spots, automaton_in, walk_data}
@@ -16,7 +15,7 @@ use Rattle.word_core.specs.declared.names.Player.{Player}
 use Rattle.word_core.specs.Automaton.{AutomatonData}
 use Rattle.dual_game.specs.declared.errors.GameError.{GameError}
 use Rattle.dual_game.specs.declared.errors.GameError.TheVariants.{TooManyFormulas, TooWide, TooManyStates, Memory}
-use Rattle.dual_game.specs.Automata.{formula_count, AutomatonIsOne, HasOneAutomaton, HasTableau, IsAutomatonOf, IsLimitOf, IsNormalOf}
+use Rattle.dual_game.specs.Automata.{formula_count, AutomatonIsOne, HasTableau, IsAutomatonOf, IsLimitOf, IsNormalOf}
 use Rattle.dual_game.proofs.OneForm.{one_form}
 
 -- ---- ascending lists

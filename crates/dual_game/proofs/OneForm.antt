@@ -1,12 +1,12 @@
 -- A normal form has one numbering: its formulas are fixed by their trees.
-use Rattle.std.proofs.Common.{◌≡◌, ℕ, zero, suc, ◌+◌, ◌<◌, ◌≤◌, Bool, true, false, nat_lt, List, [], ◌∷◌, length, get_or, refl, sym, ◌∙◌, ap, subst, arith}
+use Rattle.std.proofs.Common.{◌≡◌, ℕ, ◌<◌, ◌≤◌, Bool, true, false, nat_lt, List, length, get_or, refl, sym, ◌∙◌, ap, arith}
 use borrow.Author.Tests.{ltb-true, ltb-false}
 use Rattle.std.specs.Prelude.{slice_index_or}
 use Rattle.std.proofs.lemmas.List.{same_lists, get_or_default}
 use Rattle.ltl_form.specs.declared.normals.Node.{Node}
 use Rattle.ltl_form.specs.declared.normals.Node.TheVariants.{True, False, Lit, And, Or, Next, Until, Release}
 use Rattle.ltl_form.specs.Normal.{IsNodeAt, IsNormal}
-use Rattle.ltl_form.specs.NodeTrees.{node_tree, node_trees, formula_at}
+use Rattle.ltl_form.specs.NodeTrees.{node_tree, node_trees}
 use Rattle.ltl_form.specs.Numbered.{AreDistinct}
 use Rattle.ltl_form.specs.Tree.{Tree, truth, falsity, literal, conjoined, disjoined, following, until, release}
 use Rattle.ltl_form.proofs.NodeLists.{node_trees-length, formula_at-is}

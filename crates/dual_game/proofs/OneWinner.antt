@@ -1,18 +1,13 @@
 -- Only one player wins.
-use Rattle.std.proofs.Common.{◌≡◌, ℕ, ◌<◌, ◌≤◌, length, inl, inr, refl, sym, ◌∙◌, ap, subst, arith}
-use Rattle.word_core.specs.declared.names.Names.{Names}
-use Rattle.word_core.specs.declared.names.Kind.TheVariants.{First, Second}
+use Rattle.std.proofs.Common.{◌≡◌, ℕ, ◌<◌, ◌≤◌, length, inl, inr, refl, sym, ◌∙◌, ap, arith}
 use Rattle.word_core.specs.declared.names.Player.TheVariants.{System, Environment}
 use Rattle.word_core.specs.declared.names.Target.{Target}
 use Rattle.word_core.specs.declared.names.Target.TheVariants.{Mealy, Moore}
-use Rattle.word_core.specs.Automaton.{AutomatonData}
 use Rattle.word_core.specs.Lasso.{LassoData, prefix}
-use Rattle.word_core.specs.Machine.{MachineData}
 use Rattle.word_core.specs.Play.{IsLassoPlay}
-use Rattle.word_core.specs.Run.{Keeps, Accepts, count}
-use Rattle.dual_game.specs.declared.games.Pair.{Pair}
+use Rattle.word_core.specs.Run.{count}
 use Rattle.dual_game.specs.Games.{kind_of}
-use Rattle.dual_game.specs.Winning.{IsMachineFor, Wins, AreOpposed, OnlyOneWins, KeptIsRefused}
+use Rattle.dual_game.specs.Winning.{OnlyOneWins, KeptIsRefused}
 use Rattle.dual_game.specs.Plays.{KeepsAbove, Opposed}
 use Rattle.dual_game.proofs.Meeting.{meeting}
 

@@ -1,10 +1,10 @@
 -- Signals below a number are below each greater one.
-use Rattle.std.proofs.Common.{◌≡◌, ℕ, ◌≤◌, ◌<◌, Bool, true, ◌&&◌, List, [], ◌∷◌, map, refl, sym, ◌∙◌, subst, arith, nat_lt}
+use Rattle.std.proofs.Common.{◌≡◌, ℕ, ◌≤◌, Bool, true, ◌&&◌, List, [], ◌∷◌, map, refl, sym, ◌∙◌, subst, arith, nat_lt}
 use Rattle.std.proofs.lemmas.Bool.{and_parts}
 use Rattle.ltl_form.specs.declared.formulas.Ltl.{Ltl}
 use Rattle.ltl_form.specs.declared.formulas.Ltl.TheOpen.{Ltl-F}
 use Rattle.ltl_form.specs.declared.formulas.Ltl.TheViews.{roll-Ltl}
-use Rattle.ltl_form.specs.declared.formulas.Ltl.TheFolds.{fold-Ltl, fold-roll-Ltl, ind-Ltl, map-Ltl}
+use Rattle.ltl_form.specs.declared.formulas.Ltl.TheFolds.{fold-roll-Ltl, ind-Ltl, map-Ltl}
 use Rattle.ltl_form.specs.Formula.{all_true, signals_below, signals_below_step}
 
 nat_lt-wider : (x m n : ℕ) → m ≤ n → nat_lt x m ≡ true → nat_lt x n ≡ true

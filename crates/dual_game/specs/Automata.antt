@@ -1,6 +1,5 @@
 -- The automata of a specification.
 use Rattle.std.specs.Prelude.{◌≡◌, ◌⊎◌, ℕ, ◌<◌, ◌≤◌, ◌↔◌, Bool, true, false, not, List, [], length, if◌then◌else◌}
-use Rattle.ltl_form.specs.declared.formulas.Ltl.{Ltl}
 use Rattle.ltl_form.specs.declared.normals.Node.{Node}
 use Rattle.ltl_form.specs.Meaning.{holds_at}
 use Rattle.ltl_form.specs.NodeTrees.{node_trees, formula_at}

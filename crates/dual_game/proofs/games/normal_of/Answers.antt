@@ -1,4 +1,4 @@
-use Rattle.std.proofs.Common.{◌≡◌, ◌≤◌, ◌<◌, true, not, if◌then◌else◌, subst, [], length}
+use Rattle.std.proofs.Common.{◌≡◌, ◌≤◌, ◌<◌, not, if◌then◌else◌, subst, [], length}
 use Rattle.ltl_form.specs.declared.normals.FormError.TheVariants.{TooManyFormulas}
 use Rattle.ltl_form.specs.Meaning.{holds_at, tree_holds}
 use Rattle.ltl_form.specs.NodeTrees.{node_trees, formula_at}

@@ -1,4 +1,4 @@
-use Rattle.dual_game.proofs.Avoiding.{trimmed_accepts, trimmed_tableau, tableau_limit}
+use Rattle.dual_game.proofs.Avoiding.{trimmed_accepts, trimmed_tableau}
 use Rattle.dual_game.proofs.games.trimmed.Goals as goal
 
 pub returns-clause-accepts : goal.returns-clause-accepts
