@@ -1,12 +1,14 @@
 -- The functions of the other signals, by their numbers.
-use Rattle.std.proofs.Common.{◌≡◌, ℕ, ◌+◌, ◌/◌, ◌^◌, ◌<◌, ◌≤◌, List, [], ◌∷◌, ◌++◌, length, get_or, set, sym, ap, ◌∙◌, subst, arith, inl, inr, ◌⊎◌}
+use Rattle.std.proofs.Common.{◌≡◌, ℕ, ◌+◌, ◌/◌, ◌^◌, ◌<◌, ◌≤◌, List, [], ◌∷◌, ◌++◌, length, get_or, set, refl, sym, ap, ◌∙◌, subst, arith, inl, inr, ◌⊎◌}
 use Rattle.std.proofs.lemmas.Bool.{cases_lt, cases_eq}
 use Rattle.std.proofs.lemmas.List.{get_or_default, get_or_append_left, get_or_push, get_or-set_same, get_or-set_other}
 use Rattle.word_core.specs.declared.branches.Branch.{Branch}
 use Rattle.word_core.specs.Tree.{label_at, label_of}
-use Rattle.letter_tree.specs.Diagram.{TreeData}
+use Rattle.letter_tree.specs.Diagram.{TreeData, IsRooted, HasLeaf}
 use Rattle.letter_tree.specs.Occurrence.{AreLeasts}
 use Rattle.letter_tree.specs.Cut.{no_tree, rest_label, end_at, ArePlaced, IsFront, IsSplit}
+use Rattle.letter_tree.proofs.CutNodes.{AreApart}
+use Rattle.letter_tree.proofs.Paths.{leaf_label}
 
 -- one more rest
 pub rests_more : (nodes : List Branch) (width : ℕ) (ends : List (ℕ × ℕ)) (i : ℕ) (out now : List TreeData) (new : TreeData) → length out ≡ i → now ≡ out ++ new ∷ [] → ((bits : ℕ) → label_of new.nodes (bits / 2 ^ width) ≡ label_at nodes (end_at ends i) bits)
@@ -46,6 +48,17 @@ known_ends w nodes ends h bits =
 pub placed_label : (ends : List (ℕ × ℕ)) (numbers : List ℕ) (label number : ℕ) → ((j : ℕ) → j < length ends → end_at ends (get_or numbers (end_at ends j) 0) ≡ end_at ends j) → (i : ℕ) × (i < length ends) × (end_at ends i ≡ label) → number ≡ get_or numbers label 0 → end_at ends number ≡ label
 placed_label ends numbers label number h w e =
     ap (end_at ends) (e ∙ ap (λ l. get_or numbers l 0) (sym w.2)) ∙ h w.0 w.1 ∙ w.2
+
+-- labels of leaves get different numbers
+pub numbers_apart : (w : ℕ) (nodes : List Branch) (ends : List (ℕ × ℕ)) (numbers : List ℕ) → IsRooted w nodes → ((bits : ℕ) → (i : ℕ) × (i < length ends) × (end_at ends i ≡ label_of nodes bits))
+    → ((j : ℕ) → j < length ends → end_at ends (get_or numbers (end_at ends j) 0) ≡ end_at ends j) → AreApart numbers nodes
+numbers_apart w nodes ends numbers r known_at places l m a b e = sym (back l a) ∙ ap (end_at ends) e ∙ back m b
+  where
+    back : (k : ℕ) → HasLeaf nodes k → end_at ends (get_or numbers k 0) ≡ k
+    back k h =
+        let f = leaf_label w nodes r k h in
+        let i = known_at f.0 in
+        placed_label ends numbers k (get_or numbers k 0) places (i.0, i.1, i.2 ∙ f.2) refl
 
 -- the parts together
 pub split_exact : (nodes out front : List Branch) (whole width : ℕ) (ends : List (ℕ × ℕ)) (rests : List TreeData) → IsFront nodes whole width out → ArePlaced ends out front → ((bits : ℕ) → label_of front bits < length ends)

@@ -63,16 +63,16 @@ or_bit sum s h =
     let swap : 1 * 2 ^ s + sum ≡ sum + 2 ^ s = omega arith in
     or_comm sum (2 ^ s) ∙ ap (λ n. bit_or n sum) (sym one) ∙ or_shifted 1 s sum h ∙ swap
 
-power_next : (s : ℕ) → 2 ^ (s + 1) ≡ 2 * 2 ^ s
+pub power_next : (s : ℕ) → 2 ^ (s + 1) ≡ 2 * 2 ^ s
 power_next s = let e : s + 1 ≡ suc s = omega arith in ap (λ n. 2 ^ n) e ∙ pow-succ' 2 s
 
-below_power : (a b n : ℕ) → a ≤ b → n < 2 ^ a → n < 2 ^ b
+pub below_power : (a b n : ℕ) → a ≤ b → n < 2 ^ a → n < 2 ^ b
 below_power a b n h k =
     let p : 2 ^ a ≤ 2 ^ b = pow-le-pow_right (omega arith) h in
     omega arith
 
 -- fewer bits of what is given by more
-fewer : (bits a b v : ℕ) → a ≤ b → v < 2 ^ a → bits % 2 ^ b ≡ v → bits % 2 ^ a ≡ v
+pub fewer : (bits a b v : ℕ) → a ≤ b → v < 2 ^ a → bits % 2 ^ b ≡ v → bits % 2 ^ a ≡ v
 fewer bits a b v le small e =
     let more : b - a + a ≡ b = omega arith in
     sym (mod-mod-pow bits (b - a) a) ∙ ap (λ n. bits % 2 ^ n % 2 ^ a) more ∙ ap (λ n. n % 2 ^ a) e ∙ mod-eq_of_lt small
@@ -107,10 +107,10 @@ high_most : (a b x p v most : ℕ) → a ≡ x + b → x ≡ p → v ≤ b → a
 high_most a b x p v most e f l m = omega arith
 
 -- the part of a valuation's bit
-side_at : (s lo hi bits : ℕ) (b : Bool) → (bits / 2 ^ s % 2 == 1) ≡ b → side s lo hi bits ≡ cond b hi lo
+pub side_at : (s lo hi bits : ℕ) (b : Bool) → (bits / 2 ^ s % 2 == 1) ≡ b → side s lo hi bits ≡ cond b hi lo
 side_at s lo hi bits b e = ap (λ t. cond t hi lo) e
 
-unset_bit : (bits s sum : ℕ) → sum < 2 ^ s → bits % 2 ^ (s + 1) ≡ sum → ((bits / 2 ^ s % 2 == 1) ≡ false) × (bits % 2 ^ s ≡ sum)
+pub unset_bit : (bits s sum : ℕ) → sum < 2 ^ s → bits % 2 ^ (s + 1) ≡ sum → ((bits / 2 ^ s % 2 == 1) ≡ false) × (bits % 2 ^ s ≡ sum)
 unset_bit bits s sum small e = go (times (bits / 2 ^ s % 2) (2 ^ s) (bit_value bits s))
   where
     next : bits % 2 ^ (s + 1) ≡ bits / 2 ^ s % 2 * 2 ^ s + bits % 2 ^ s
@@ -120,7 +120,7 @@ unset_bit bits s sum small e = go (times (bits / 2 ^ s % 2) (2 ^ s) (bit_value b
     go (inl z) = (ap (λ n. n == 1) z.0, low_alone (bits % 2 ^ (s + 1)) (bits % 2 ^ s) (bits / 2 ^ s % 2 * 2 ^ s) sum next z.1 e)
     go (inr o) = absurd (too_low (bits % 2 ^ (s + 1)) (bits % 2 ^ s) (bits / 2 ^ s % 2 * 2 ^ s) (2 ^ s) sum next o.1 e small)
 
-set_bit : (bits s sum : ℕ) → sum < 2 ^ s → bits % 2 ^ (s + 1) ≡ sum + 2 ^ s → ((bits / 2 ^ s % 2 == 1) ≡ true) × (bits % 2 ^ s ≡ sum)
+pub set_bit : (bits s sum : ℕ) → sum < 2 ^ s → bits % 2 ^ (s + 1) ≡ sum + 2 ^ s → ((bits / 2 ^ s % 2 == 1) ≡ true) × (bits % 2 ^ s ≡ sum)
 set_bit bits s sum small e = go (times (bits / 2 ^ s % 2) (2 ^ s) (bit_value bits s))
   where
     next : bits % 2 ^ (s + 1) ≡ bits / 2 ^ s % 2 * 2 ^ s + bits % 2 ^ s
