@@ -7,7 +7,9 @@ use Rattle.std.specs.List.{slice_get}
 use Rattle.word_core.specs.declared.branches.Branch.{Branch}
 use Rattle.word_core.specs.declared.branches.Branch.TheVariants.{Leaf, Split}
 use Rattle.word_core.specs.Tree.{label_at, label_of}
-use Rattle.letter_tree.specs.Diagram.{top, IsFork, IsDiagram, IsRooted, AreDistinct, Visits, known, leaf, fork}
+use Rattle.letter_tree.specs.Diagram.{top, IsFork, IsDiagram, IsRooted, AreDistinct, Visits, known, leaf, fork, TreeData}
+use Rattle.letter_tree.specs.Function.{AreOneFunction}
+use Rattle.letter_tree.proofs.Branches.{same_tree}
 use Rattle.letter_tree.proofs.Copies.{Some-same}
 use Rattle.letter_tree.proofs.Diagrams.{label_at-leaf, label_at-split}
 use Rattle.letter_tree.proofs.Distinct.{Differ, Agree, Differ-turned, not_both, label_at-none, with_bit, with_bit_below, low_label, high_label, differ_later, differ_leaves, places_differ}
@@ -186,3 +188,10 @@ one_tree w a b r q agree = same_nodes a b all.end all.same
 
     all : Meet a b (length a - 1) (length b - 1) (length a) (length b)
     all = walks_meet w a b two 0 (length a - 1) (length a) r.visits (length b - 1) (length b) q.visits (omega arith) (omega arith) (λ i lt. absurd (omega arith)) agree
+
+-- as data
+pub one_data : (a b : TreeData) → IsRooted a.width a.nodes → IsRooted b.width b.nodes → AreOneFunction a b → a ≡ b
+one_data a b r q f = same_tree a b f.0 (one_tree a.width a.nodes b.nodes r (subst (λ w. IsRooted w b.nodes) (sym f.0) q) f.1)
+
+pub same_function : (a b : TreeData) → a ≡ b → AreOneFunction a b
+same_function a b e = (ap (λ (t : TreeData). t.width) e, λ bits lt. ap (λ (t : TreeData). label_of t.nodes bits) e)
