@@ -5,6 +5,7 @@ pub mod CutNodes
 pub mod Diagrams
 pub mod Distinct
 pub mod Joints
+pub mod LabelPairs
 pub mod Lists
 pub mod Notes
 pub mod Occurring
