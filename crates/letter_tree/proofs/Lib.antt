@@ -6,6 +6,7 @@ pub mod Diagrams
 pub mod Distinct
 pub mod Joints
 pub mod LabelPairs
+pub mod Leadings
 pub mod Lists
 pub mod Notes
 pub mod Occurring

@@ -25,7 +25,7 @@ pub on_to : (w : ℕ) (nodes : List Branch) → IsDiagram w nodes → (place s l
 on_to w nodes d place s lo hi e p bits v m g =
     p.leads bits (ap (λ o. bits % 2 ^ top w o) e ∙ m) ∙ label_at-split w nodes d place s lo hi bits e ∙ ap (λ q. label_at nodes q bits) (side_at s lo hi bits v g)
 
-sum_small : (w : ℕ) (nodes : List Branch) (place s lo hi : ℕ) → slice_get nodes place ≡ Some (Split s lo hi) → (p : HasPath w nodes place) → p.sum < 2 ^ s
+pub sum_small : (w : ℕ) (nodes : List Branch) (place s lo hi : ℕ) → slice_get nodes place ≡ Some (Split s lo hi) → (p : HasPath w nodes place) → p.sum < 2 ^ s
 sum_small w nodes place s lo hi e p = subst (λ o. p.sum < 2 ^ top w o) e p.small
 
 path_low : (w : ℕ) (nodes : List Branch) → IsDiagram w nodes → (place s lo hi : ℕ) → slice_get nodes place ≡ Some (Split s lo hi) → HasPath w nodes place → HasPath w nodes lo

@@ -5,6 +5,7 @@ pub mod Cut
 pub mod Diagram
 pub mod Function
 pub mod Join
+pub mod Leading
 pub mod Listed
 pub mod Memo
 pub mod Occurrence
