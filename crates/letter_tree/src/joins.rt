@@ -4,6 +4,7 @@ ghost use Rattle.std.specs.Prelude.{ℕ, ◌≡◌, ◌+◌, ◌<◌, ◌≤◌,
 ghost use Rattle.word_core.specs.Tree.{label_of};
 ghost use Rattle.letter_tree.specs.Diagram.{IsDiagram, Grows};
 ghost use Rattle.letter_tree.specs.Function.{AreOneFunction};
+ghost use Rattle.letter_tree.specs.declared.joins.Jointly.TheVariants.{Parts};
 ghost use Rattle.letter_tree.specs.Join.{AreJointly, IsJoin, IsJoining};
 
 use crate::memos::Memo;
@@ -71,16 +72,8 @@ pub fn joint(a: &[Branch], b: &[Branch], width: u32, x: u64, y: u64) -> Jointly
 {
     match (a[x as usize], b[y as usize]) {
         (Branch::Leaf(l), Branch::Leaf(m)) => Jointly::Labels(l, m),
-        (Branch::Split { signal, low, high }, Branch::Leaf(_)) => Jointly::Parts {
-            signal,
-            low: (low, y),
-            high: (high, y),
-        },
-        (Branch::Leaf(_), Branch::Split { signal, low, high }) => Jointly::Parts {
-            signal,
-            low: (x, low),
-            high: (x, high),
-        },
+        (Branch::Split { signal, low, high }, Branch::Leaf(_)) => left_parts(signal, low, high, y),
+        (Branch::Leaf(_), Branch::Split { signal, low, high }) => right_parts(signal, x, low, high),
         (
             Branch::Split { signal, low, high },
             Branch::Split {
@@ -96,19 +89,33 @@ pub fn joint(a: &[Branch], b: &[Branch], width: u32, x: u64, y: u64) -> Jointly
                     high: (high, one),
                 }
             } else if signal < other {
-                Jointly::Parts {
-                    signal,
-                    low: (low, y),
-                    high: (high, y),
-                }
+                left_parts(signal, low, high, y)
             } else {
-                Jointly::Parts {
-                    signal: other,
-                    low: (x, zero),
-                    high: (x, one),
-                }
+                right_parts(other, x, zero, one)
             }
         }
+    }
+}
+
+/// The parts of the first node, each with the second node.
+fn left_parts(signal: u32, low: u64, high: u64, y: u64) -> Jointly
+    ensures { result ≡ Parts signal (low, y) (high, y) }
+{
+    Jointly::Parts {
+        signal,
+        low: (low, y),
+        high: (high, y),
+    }
+}
+
+/// The parts of the second node, each with the first node.
+fn right_parts(signal: u32, x: u64, low: u64, high: u64) -> Jointly
+    ensures { result ≡ Parts signal (x, low) (x, high) }
+{
+    Jointly::Parts {
+        signal,
+        low: (x, low),
+        high: (x, high),
     }
 }
 
