@@ -1,9 +1,9 @@
 -- `==` of nodes decides whether they are equal.
-use Rattle.std.proofs.Common.{◌≡◌, ◌≢◌, ◌<◌, ℕ, List, length, Some, ◌&&◌, sym, ap, ◌∙◌, eqb, arith}
+use Rattle.std.proofs.Common.{◌≡◌, ◌≢◌, ◌<◌, ℕ, List, length, ◌&&◌, sym, ap, ◌∙◌, eqb, arith}
 use Rattle.std.proofs.lemmas.Bool.Decides.{Decides-eqb, Decides-and, Decides-like}
 use Rattle.std.proofs.lemmas.Option.{slice_get-get_or}
 use Rattle.std.specs.Bool.{Decides}
-use Rattle.std.specs.List.{slice_get, AllPairs}
+use Rattle.std.specs.List.{AllPairs}
 use Rattle.word_core.specs.contracts.branches.BranchPartialEq.TheImpl as branch_eq
 use Rattle.word_core.specs.declared.branches.Branch.{Branch}
 use Rattle.word_core.specs.declared.branches.Branch.TheVariants.{Leaf, Split}

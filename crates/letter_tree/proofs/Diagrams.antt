@@ -7,7 +7,7 @@ use Rattle.std.specs.Prelude.{◌⊎◌}
 use Rattle.word_core.specs.declared.branches.Branch.{Branch}
 use Rattle.word_core.specs.declared.branches.Branch.TheVariants.{Leaf, Split}
 use Rattle.word_core.specs.Tree.{label_at, label_from, next_label, side, IsNodeAt, IsTree, TestsBelow, AllTestBelow}
-use Rattle.letter_tree.specs.Diagram.{top, IsFork, IsNode, IsDiagram, IsRooted, AreDistinct, Visits, leaf, TreeData, Grows, CanFork, IsForked}
+use Rattle.letter_tree.specs.Diagram.{top, IsFork, IsNode, IsDiagram, IsRooted, leaf, TreeData, Grows, CanFork, IsForked}
 
 -- what stands in front stays there
 pub slice_get-front : {X : Type 0} (xs ys : List X) (i : ℕ) → i < length xs → slice_get (xs ++ ys) i ≡ slice_get xs i

@@ -7,10 +7,10 @@ use Rattle.std.proofs.Math.Nat.{pow-succ'}
 use Rattle.std.specs.List.{slice_get}
 use Rattle.word_core.specs.declared.branches.Branch.{Branch}
 use Rattle.word_core.specs.declared.branches.Branch.TheVariants.{Leaf, Split}
-use Rattle.word_core.specs.Tree.{label_at, side}
+use Rattle.word_core.specs.Tree.{label_at}
 use Rattle.letter_tree.specs.Diagram.{top, IsFork, IsDiagram, IsRooted, AreDistinct}
 use Rattle.letter_tree.proofs.Diagrams.{label_at-leaf, label_at-split}
-use Rattle.letter_tree.proofs.Joints.{fork_at, top_at}
+use Rattle.letter_tree.proofs.Joints.{fork_at}
 
 -- some valuation of the width has different labels at two places
 abbrev pub Differ : List Branch → ℕ → List Branch → ℕ → ℕ → Type 0
@@ -219,9 +219,12 @@ apart_from w nodes d distinct (suc n) place other h i p_in o_in ne =
 pub places_differ : (w : ℕ) (nodes : List Branch) → IsDiagram w nodes → AreDistinct nodes → (place other : ℕ) → place < length nodes → other < length nodes → place ≢ other → Differ nodes place nodes other w
 places_differ w nodes d distinct place other p_in o_in ne = apart_from w nodes d distinct (length nodes) place other p_in o_in p_in o_in ne
 
--- the two parts of a tree's split
+-- the two parts of a split
+pub fork_differs : (w : ℕ) (nodes : List Branch) → IsDiagram w nodes → AreDistinct nodes → (place s lo hi : ℕ) → slice_get nodes place ≡ Some (Split s lo hi) → Differ nodes lo nodes hi w
+fork_differs w nodes d distinct place s lo hi e =
+    let k : IsFork w nodes place s lo hi = fork_at w nodes place s lo hi d e in
+    let inside : place < length nodes = slice_get_within nodes place (Split s lo hi) e in
+    places_differ w nodes d distinct lo hi (omega (arith, k.low_earlier)) (omega (arith, k.high_earlier)) k.differ
+
 pub parts_differ : (width : ℕ) (nodes : List Branch) (place signal low high : ℕ) → IsRooted width nodes → slice_get nodes place ≡ Some (Split signal low high) → (bits : ℕ) × (bits < 2 ^ width) × (label_at nodes low bits ≢ label_at nodes high bits)
-parts_differ width nodes place signal low high r e =
-    let k : IsFork width nodes place signal low high = fork_at width nodes place signal low high r.diagram e in
-    let inside : place < length nodes = slice_get_within nodes place (Split signal low high) e in
-    places_differ width nodes r.diagram r.distinct low high (omega (arith, k.low_earlier)) (omega (arith, k.high_earlier)) k.differ
+parts_differ width nodes place signal low high r e = fork_differs width nodes r.diagram r.distinct place signal low high e

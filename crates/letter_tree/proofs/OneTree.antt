@@ -1,5 +1,5 @@
 -- Two trees of one function are one.
-use Rattle.std.proofs.Common.{Bool, true, false, cond, ◌≡◌, ◌≢◌, ℕ, zero, suc, ◌+◌, ◌-◌, ◌/◌, ◌%◌, ◌^◌, ◌==◌, ◌<◌, ◌≤◌, List, length, Option, Some, None, refl, sym, ap, ◌∙◌, subst, arith, inl, inr, ◌⊎◌}
+use Rattle.std.proofs.Common.{Bool, true, false, cond, ◌≡◌, ℕ, zero, suc, ◌+◌, ◌-◌, ◌/◌, ◌%◌, ◌^◌, ◌==◌, ◌<◌, ◌≤◌, List, length, Option, Some, None, refl, sym, ap, ◌∙◌, subst, arith, inl, inr, ◌⊎◌}
 use Rattle.std.proofs.lemmas.Bool.{cases_eq, cases_lt}
 use Rattle.std.proofs.lemmas.List.{same_lists}
 use Rattle.std.proofs.lemmas.Option.{slice_get_within, slice_get-get_or}
@@ -12,7 +12,7 @@ use Rattle.letter_tree.specs.Function.{AreOneFunction}
 use Rattle.letter_tree.proofs.Branches.{same_tree}
 use Rattle.letter_tree.proofs.Copies.{Some-same}
 use Rattle.letter_tree.proofs.Diagrams.{label_at-leaf, label_at-split}
-use Rattle.letter_tree.proofs.Distinct.{Differ, Agree, Differ-turned, not_both, label_at-none, with_bit, with_bit_below, low_label, high_label, differ_later, differ_leaves, places_differ}
+use Rattle.letter_tree.proofs.Distinct.{Agree, not_both, label_at-none, with_bit, with_bit_below, low_label, high_label, differ_later, differ_leaves, places_differ, fork_differs}
 use Rattle.letter_tree.proofs.Joints.{fork_at}
 
 -- a walk goes on from the first nodes, up to its own
@@ -81,15 +81,9 @@ record Meet (a b : List Branch) (x y upto upto' : ℕ) : Type 0 where
   end : upto ≡ upto'
   same : Same a b upto
 
-parts_of : (w : ℕ) (a : List Branch) → IsDiagram w a → AreDistinct a → (x s lo hi : ℕ) → slice_get a x ≡ Some (Split s lo hi) → Differ a lo a hi w
-parts_of w a d distinct x s lo hi e =
-    let k : IsFork w a x s lo hi = fork_at w a x s lo hi d e in
-    let inside : x < length a = slice_get_within a x (Split s lo hi) e in
-    places_differ w a d distinct lo hi (omega (arith, k.low_earlier)) (omega (arith, k.high_earlier)) k.differ
-
 -- a fork has the function of no node that tests later signals
 fork_only : (w : ℕ) (a b : List Branch) → AreTwo w a b → (x y s lo hi : ℕ) → slice_get a x ≡ Some (Split s lo hi) → s < top w (slice_get b y) → Agree a x b y w → ⊥
-fork_only w a b t x y s lo hi e later h = not_both a x b y w h (differ_later w a b x y s lo hi t.left t.right e later (parts_of w a t.left t.left_distinct x s lo hi e))
+fork_only w a b t x y s lo hi e later h = not_both a x b y w h (differ_later w a b x y s lo hi t.left t.right e later (fork_differs w a t.left t.left_distinct x s lo hi e))
 
 leaves_meet : (w : ℕ) (a b : List Branch) → (from l m : ℕ) → Same a b from → slice_get a from ≡ Some (Leaf l) → slice_get b from ≡ Some (Leaf m) → Agree a from b from w → Meet a b from from (from + 1) (from + 1)
 leaves_meet w a b from l m same e f h = go (cases_eq l m)

@@ -102,8 +102,7 @@ numbered_exact nodes out front whole width ends rests r narrow are leasts placed
         let i_in : i < length ends = omega (arith, lt, j_in) in
         let d : Differ nodes (end_at ends i) nodes (end_at ends j) whole =
         places_differ whole nodes r.diagram r.distinct (end_at ends i) (end_at ends j) (are i (0, 0) i_in).within (are j (0, 0) j_in).within (leasts.once i j (0, 0) lt j_in) in
-        let more : whole - width + width ≡ whole = omega arith in
-        (
+        let more : whole - width + width ≡ whole = omega arith in (
           d.0 / 2 ^ width,
           shr_below d.0 (whole - width) width (subst (λ n. d.0 < 2 ^ n) (sym more) d.1),
           λ e. d.2 (sym (each i d.0 i_in) ∙ e ∙ each j d.0 j_in),

@@ -1,4 +1,4 @@
-use Rattle.std.proofs.Common.{◌≡◌, ℕ, ◌<◌, length, refl, arith}
+use Rattle.std.proofs.Common.{ℕ, ◌<◌, length, refl, arith}
 use Rattle.std.specs.List.{slice_get}
 use Rattle.letter_tree.specs.Leading.{PartEndsIn}
 use Rattle.letter_tree.proofs.Leadings.{part_leads_on, leads_last, last_leads, none_more}

@@ -2,7 +2,7 @@ use Rattle.std.proofs.Common.{◌≡◌, ℕ, ◌≤◌, ◌<◌, ◌∙◌, len
 use Rattle.std.proofs.lemmas.Result.{IfOk-weaker}
 use Rattle.std.specs.List.{slice_get}
 use Rattle.word_core.specs.declared.branches.Branch.TheVariants.{Leaf, Split}
-use Rattle.letter_tree.specs.Diagram.{top, Visits, known}
+use Rattle.letter_tree.specs.Diagram.{top, known}
 use Rattle.letter_tree.proofs.Copies.{IsCopying-leaf, IsCopying-split, GoesOn-put, GoesOn-same, GoesOn-then, IsPut-noted, IsPut-later, later_then, visits_leaf, visits_split, read_at, not_Some}
 use Rattle.letter_tree.proofs.Joints.{fork_at}
 use Rattle.letter_tree.proofs.reached_nodes.+visit.Goals as goal

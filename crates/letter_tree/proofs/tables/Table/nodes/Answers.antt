@@ -1,4 +1,4 @@
-use Rattle.std.proofs.Common.{sym, ap, ◌∙◌, subst}
+use Rattle.std.proofs.Common.{subst}
 use Rattle.std.proofs.lemmas.Map.Made.{AllPairs-from_IsDistinct}
 use Rattle.letter_tree.specs.Diagram.{TreeData, AreDistinct}
 use Rattle.letter_tree.proofs.Branches.{branch_decides, distinct_from}
