@@ -3,7 +3,9 @@ pub mod Copy
 pub mod Cubed
 pub mod Cut
 pub mod Diagram
+pub mod Function
 pub mod Join
+pub mod Leading
 pub mod Listed
 pub mod Memo
 pub mod Occurrence

@@ -3,6 +3,8 @@
 ghost use Rattle.std.specs.Prelude.{ℕ, ◌≡◌, ◌+◌, ◌<◌, ◌≤◌, IfOk, OnOk, IsTrue, ◌↔◌, length};
 ghost use Rattle.word_core.specs.Tree.{label_of};
 ghost use Rattle.letter_tree.specs.Diagram.{IsDiagram, Grows};
+ghost use Rattle.letter_tree.specs.Function.{AreOneFunction};
+ghost use Rattle.letter_tree.specs.declared.joins.Jointly.TheVariants.{Parts};
 ghost use Rattle.letter_tree.specs.Join.{AreJointly, IsJoin, IsJoining};
 
 use crate::memos::Memo;
@@ -33,9 +35,19 @@ pub fn apply<F: Fn(u64, u64) -> u64>(
 
 /// Whether two trees are one function of the same signals.
 pub fn equal(a: &Tree, b: &Tree) -> bool
-    ensures { IsTrue result ↔ (a.now ≡ b.now) }
+    ensures function { IsTrue result ↔ AreOneFunction a.now b.now }
+    ensures tree { IsTrue result ↔ (a.now ≡ b.now) }
 {
     a.width() == b.width() && a.branches() == b.branches()
+}
+
+/// Trees of one function of the same signals are equal.
+pub fn tree_is_one(a: &Tree, b: &Tree)
+    requires { AreOneFunction a.now b.now }
+    ensures { a.now ≡ b.now }
+{
+    let _ = a.branches();
+    let _ = b.branches();
 }
 
 /// How two nodes go on together: two labels, or the least signal that one of them tests with both
@@ -60,16 +72,8 @@ pub fn joint(a: &[Branch], b: &[Branch], width: u32, x: u64, y: u64) -> Jointly
 {
     match (a[x as usize], b[y as usize]) {
         (Branch::Leaf(l), Branch::Leaf(m)) => Jointly::Labels(l, m),
-        (Branch::Split { signal, low, high }, Branch::Leaf(_)) => Jointly::Parts {
-            signal,
-            low: (low, y),
-            high: (high, y),
-        },
-        (Branch::Leaf(_), Branch::Split { signal, low, high }) => Jointly::Parts {
-            signal,
-            low: (x, low),
-            high: (x, high),
-        },
+        (Branch::Split { signal, low, high }, Branch::Leaf(_)) => left_parts(signal, low, high, y),
+        (Branch::Leaf(_), Branch::Split { signal, low, high }) => right_parts(signal, x, low, high),
         (
             Branch::Split { signal, low, high },
             Branch::Split {
@@ -85,19 +89,33 @@ pub fn joint(a: &[Branch], b: &[Branch], width: u32, x: u64, y: u64) -> Jointly
                     high: (high, one),
                 }
             } else if signal < other {
-                Jointly::Parts {
-                    signal,
-                    low: (low, y),
-                    high: (high, y),
-                }
+                left_parts(signal, low, high, y)
             } else {
-                Jointly::Parts {
-                    signal: other,
-                    low: (x, zero),
-                    high: (x, one),
-                }
+                right_parts(other, x, zero, one)
             }
         }
+    }
+}
+
+/// The parts of the first node, each with the second node.
+fn left_parts(signal: u32, low: u64, high: u64, y: u64) -> Jointly
+    ensures { result ≡ Parts signal (low, y) (high, y) }
+{
+    Jointly::Parts {
+        signal,
+        low: (low, y),
+        high: (high, y),
+    }
+}
+
+/// The parts of the second node, each with the first node.
+fn right_parts(signal: u32, x: u64, low: u64, high: u64) -> Jointly
+    ensures { result ≡ Parts signal (x, low) (x, high) }
+{
+    Jointly::Parts {
+        signal,
+        low: (x, low),
+        high: (x, high),
     }
 }
 

@@ -1,8 +1,9 @@
 //! The labels that occur in a tree, and their least valuations.
 
-ghost use Rattle.std.specs.Prelude.{ℕ, ◌≡◌, ◌+◌, ◌^◌, ◌<◌, ◌≤◌, ◌++◌, IfOk, OnOk, IsTrue, false, Some, All, length, slice_get, slice_index};
+ghost use Rattle.std.specs.Prelude.{ℕ, ◌≡◌, ◌+◌, ◌%◌, ◌^◌, ◌<◌, ◌≤◌, ◌++◌, ◌↔◌, IfOk, OnOk, IsTrue, false, Some, All, length, slice_get, slice_index};
 ghost use Rattle.word_core.specs.Tree.{IsTree};
-ghost use Rattle.letter_tree.specs.Diagram.{IsDiagram, IsRooted, HasLeaf};
+ghost use Rattle.letter_tree.specs.Diagram.{IsDiagram, IsRooted, AreDistinct, HasLeaf, top};
+ghost use Rattle.letter_tree.specs.Leading.{IsLeast, Leads, EndsIn, PartEndsIn};
 ghost use Rattle.letter_tree.specs.Occurrence.{AreLeasts, AreLabels, labels_in};
 ghost use Rattle.letter_tree.specs.Sums.{ArePassing, ArePairsOf, IsLowered, label_pair};
 
@@ -12,9 +13,11 @@ use std::alloc::{AllocError, Global};
 use word_core::{Branch, walk};
 
 /// The least valuation with a label. None exactly where no valuation has it.
-pub fn least(t: &Tree, label: u64) -> Option<u64> {
+pub fn least(t: &Tree, label: u64) -> Option<u64>
+    ensures { IsLeast t.now.width t.now.nodes label result }
+{
     let nodes = t.branches();
-    if !has_label(nodes, label) {
+    if !leads(nodes, t.width(), t.width(), 0, label) {
         return None;
     }
     let mut found = 0;
@@ -68,6 +71,7 @@ fn labelled(
     sums: &[Option<u64>],
 ) -> Result<Vec<(u64, u64)>, AllocError>
     requires count { length sums.now ≡ length nodes.now }
+    requires distinct { AreDistinct nodes.now }
     ensures { IfOk result (λ v. ArePairsOf nodes.now sums.now (length nodes.now) v.items) }
 {
     let mut out = Vec::new(alloc);
@@ -147,14 +151,12 @@ fn is_at_most(known: Option<u64>, sum: u64) -> bool
     }
 }
 
-/// Whether some leaf has the label.
-fn has_label(nodes: &[Branch], label: u64) -> bool {
-    nodes.iter().any(|node| *node == Branch::Leaf(label))
-}
-
 /// Whether some valuation has the label and, from the signal on, these bits.
 fn leads(nodes: &[Branch], width: u32, signal: u32, bits: u64, label: u64) -> bool
-    requires { IsRooted width nodes.now }
+    requires tree { IsRooted width nodes.now }
+    requires narrow { signal ≤ width }
+    requires whole { bits % 2 ^ signal ≡ 0 }
+    ensures { IsTrue result ↔ Leads nodes.now signal bits label }
 {
     for place in 0..nodes.len() {
         if part_leads(nodes, width, signal, place, bits, label) {
@@ -176,6 +178,7 @@ fn part_leads(
 ) -> bool
     requires tree { IsRooted width nodes.now }
     requires place_in { place < length nodes.now }
+    ensures { IsTrue result ↔ PartEndsIn width nodes.now signal bits label (slice_get nodes.now place) }
 {
     match nodes[place] {
         Branch::Leaf(_) => false,
@@ -195,14 +198,18 @@ fn part_leads(
 fn ends_in(nodes: &[Branch], width: u32, signal: u32, at: u64, bits: u64, label: u64) -> bool
     requires tree { IsRooted width nodes.now }
     requires at_in { at < length nodes.now }
+    ensures { IsTrue result ↔ EndsIn width nodes.now signal bits label at }
 {
-    !tests_below(nodes[at as usize], signal) && walk(&nodes[..at as usize + 1], bits) == label
+    first_signal(nodes[at as usize], width) >= signal
+        && walk(&nodes[..at as usize + 1], bits) == label
 }
 
-/// Whether a node tests a signal below this one.
-fn tests_below(node: Branch, signal: u32) -> bool {
+/// The signal that a node tests, and the width where it is a leaf.
+fn first_signal(node: Branch, width: u32) -> u32
+    ensures { result ≡ top width (Some node) }
+{
     match node {
-        Branch::Leaf(_) => false,
-        Branch::Split { signal: tested, .. } => tested < signal,
+        Branch::Leaf(_) => width,
+        Branch::Split { signal, .. } => signal,
     }
 }
