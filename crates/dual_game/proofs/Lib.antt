@@ -2,13 +2,16 @@ mod Alike
 pub mod Avoiding
 mod Counted
 mod Decided
+mod FullTree
 mod Grouped
 mod InOrder
 mod Lifting
+mod MadeRows
 mod Meeting
 pub mod OneAutomaton
 mod OneForm
 mod OneList
+pub mod OneWhole
 pub mod OneWinner
 mod Reached
 mod SameMachine
@@ -16,3 +19,4 @@ mod Shadow
 mod Shared
 pub mod Tried
 mod Weaker
+mod WholeGame
