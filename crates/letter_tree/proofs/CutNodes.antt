@@ -1,5 +1,5 @@
 -- Nodes that stop at a signal, and nodes with other labels.
-use Rattle.std.proofs.Common.{Bool, true, false, cond, ltb, ◌≡◌, ℕ, zero, suc, ◌+◌, ◌-◌, ◌/◌, ◌%◌, ◌^◌, ◌==◌, ◌<◌, ◌≤◌, List, [], ◌∷◌, ◌++◌, length, get_or, map, take, Option, Some, None, refl, sym, ap, ◌∙◌, subst, arith}
+use Rattle.std.proofs.Common.{Bool, true, false, cond, ltb, ◌≡◌, ◌≢◌, ℕ, zero, suc, ◌+◌, ◌-◌, ◌/◌, ◌%◌, ◌^◌, ◌==◌, ◌<◌, ◌≤◌, List, [], ◌∷◌, ◌++◌, length, get_or, map, take, Option, Some, None, refl, sym, ap, ◌∙◌, subst, arith}
 use Rattle.std.proofs.lemmas.Bool.Decides.{Decides-ltb, nat_tests}
 use Rattle.std.proofs.lemmas.List.{take_more, take_all, length-take-le, length-map}
 use Rattle.std.proofs.lemmas.Option.{slice_get_within, slice_get-get_or, slice_get-map}
@@ -9,7 +9,7 @@ use Rattle.std.specs.Option.{option_map}
 use Rattle.word_core.specs.declared.branches.Branch.{Branch}
 use Rattle.word_core.specs.declared.branches.Branch.TheVariants.{Leaf, Split}
 use Rattle.word_core.specs.Tree.{label_at, label_of, LabelHas, AllLabels}
-use Rattle.letter_tree.specs.Diagram.{top, IsFork, IsNode, IsDiagram, IsRooted, HasLeaf}
+use Rattle.letter_tree.specs.Diagram.{top, IsFork, IsNode, IsDiagram, IsRooted, HasLeaf, AreDistinct, Visits, known, leaf, fork}
 use Rattle.letter_tree.specs.Copy.{IsReached}
 use Rattle.letter_tree.specs.Cut.{stopped, all_stopped, relabelled, IsEnd, IsFront}
 use Rattle.letter_tree.proofs.Copies.{Some-same}
@@ -137,9 +137,46 @@ ends_right whole w nodes d le (suc n) place bits h i =
             ap (λ l. label_at nodes l bits) (label_at-split w (all_stopped w 0 nodes) (stopped_diagram whole w nodes d le) place s lo hi bits f)
             ∙ part (bits / 2 ^ s % 2 == 1) ∙ sym (label_at-split whole nodes d place s lo hi bits e)
 
+-- stopped nodes differ as the nodes do
+stopped_apart : (w p q : ℕ) (m n : Branch) → p ≢ q → m ≢ n → stopped w p m ≡ stopped w q n → ⊥
+stopped_apart w p q (Leaf l) (Leaf l') ne d e = ne (cc)
+stopped_apart w p q (Leaf l) (Split s lo hi) ne d e = go (ltb s w) e
+  where
+    go : (b : Bool) → Leaf p ≡ cond b (Split s lo hi) (Leaf q) → ⊥
+    go true h = absurd (cc)
+    go false h = ne (cc)
+stopped_apart w p q (Split s lo hi) (Leaf l) ne d e = go (ltb s w) e
+  where
+    go : (b : Bool) → cond b (Split s lo hi) (Leaf p) ≡ Leaf q → ⊥
+    go true h = absurd (cc)
+    go false h = ne (cc)
+stopped_apart w p q (Split s lo hi) (Split s' lo' hi') ne d e = go (ltb s w) (ltb s' w) e
+  where
+    go : (b c : Bool) → cond b (Split s lo hi) (Leaf p) ≡ cond c (Split s' lo' hi') (Leaf q) → ⊥
+    go true true h = d h
+    go true false h = absurd (cc)
+    go false true h = absurd (cc)
+    go false false h = ne (cc)
+
+pub stopped_distinct : (w : ℕ) (nodes : List Branch) → AreDistinct nodes → AreDistinct (all_stopped w 0 nodes)
+stopped_distinct w nodes distinct i j lt j_in e =
+    let size : length (all_stopped w 0 nodes) ≡ length nodes = length-all_stopped w 0 nodes in
+    let j_in' : j < length nodes = omega (arith, j_in, size) in
+    let i_in' : i < length nodes = omega arith in
+    let x : slice_get nodes i ≡ Some (get_or nodes i (Leaf 0)) = slice_get-get_or nodes i (Leaf 0) i_in' in
+    let y : slice_get nodes j ≡ Some (get_or nodes j (Leaf 0)) = slice_get-get_or nodes j (Leaf 0) j_in' in
+    let here : Some (stopped w (0 + i) (get_or nodes i (Leaf 0))) ≡ Some (stopped w (0 + j) (get_or nodes j (Leaf 0))) =
+    sym (slice_get-all_stopped w 0 nodes i ∙ ap (option_map (stopped w (0 + i))) x) ∙ e ∙ slice_get-all_stopped w 0 nodes j ∙ ap (option_map (stopped w (0 + j))) y in
+    stopped_apart w (0 + i) (0 + j) (get_or nodes i (Leaf 0)) (get_or nodes j (Leaf 0)) (λ s. omega (arith, s, lt))
+    (λ s. distinct i j lt j_in' (x ∙ ap (λ n. Some n) s ∙ sym y)) (Some-same here)
+
+-- no signals are taken away
+pub rooted_whole : (w : ℕ) (nodes : List Branch) → IsRooted (w - 0) nodes → IsRooted w nodes
+rooted_whole w nodes r = (let same : w - 0 ≡ w = omega arith in subst (λ v. IsRooted v nodes) same r)
+
 pub IsFront-reached : (whole w root : ℕ) (nodes all out : List Branch) → IsRooted whole nodes → w ≤ whole → all ≡ all_stopped w 0 nodes → root ≡ length nodes - 1 → IsReached all w 0 root out → IsFront nodes whole w out
 IsFront-reached whole w root nodes all out r le e f k = record {
-  rooted = record { some = k.some; diagram = subst (λ v. IsDiagram v out) same k.diagram };
+  rooted = rooted_whole w out k.rooted;
   ends = λ place l h. ends l (k.leaves place l h);
   label = λ bits.
       ap (λ b. label_at nodes (label_of out b) bits) (sym (div-one bits)) ∙ ap (λ l. label_at nodes l bits) (k.label bits)
@@ -147,9 +184,6 @@ IsFront-reached whole w root nodes all out r le e f k = record {
       ∙ ends_right whole w nodes r.diagram le (suc root) root bits (omega arith) (omega (arith, f, r.some)) ∙ ap (λ q. label_at nodes q bits) f;
 }
   where
-    same : w - 0 ≡ w
-    same = omega arith
-
     ends : (l : ℕ) → HasLeaf all l → IsEnd nodes whole w l
     ends l h = end_at whole w nodes h.0 l (slice_get nodes h.0) refl le (sym (slice_get-all_stopped w 0 nodes h.0) ∙ ap (λ t. slice_get t h.0) (sym e) ∙ h.1)
 
@@ -159,13 +193,10 @@ relabelled_top w numbers None = refl
 relabelled_top w numbers (Some (Leaf l)) = refl
 relabelled_top w numbers (Some (Split s lo hi)) = refl
 
-pub relabelled_rooted : (w : ℕ) (numbers : List ℕ) (nodes : List Branch) → IsRooted w nodes → IsRooted w (map (relabelled numbers) nodes)
-relabelled_rooted w numbers nodes r = record {
-  some = omega (arith, r.some, length-map nodes (relabelled numbers));
-  diagram = record {
-    narrow = r.diagram.narrow;
-    node = λ place. subst (IsNode w (map (relabelled numbers) nodes) place) (sym (slice_get-map (relabelled numbers) nodes place)) (go place (slice_get nodes place) (r.diagram.node place));
-  };
+relabelled_diagram : (w : ℕ) (numbers : List ℕ) (nodes : List Branch) → IsDiagram w nodes → IsDiagram w (map (relabelled numbers) nodes)
+relabelled_diagram w numbers nodes d = record {
+  narrow = d.narrow;
+  node = λ place. subst (IsNode w (map (relabelled numbers) nodes) place) (sym (slice_get-map (relabelled numbers) nodes place)) (go place (slice_get nodes place) (d.node place));
 }
   where
     later : (s p : ℕ) → s < top w (slice_get nodes p) → s < top w (slice_get (map (relabelled numbers) nodes) p)
@@ -182,6 +213,47 @@ relabelled_rooted w numbers nodes r = record {
       high_later = later s hi k.high_later;
       differ = k.differ;
     }
+
+-- labels of leaves that get one number are one
+abbrev pub AreApart : List ℕ → List Branch → Type 0
+AreApart numbers nodes = (l m : ℕ) → HasLeaf nodes l → HasLeaf nodes m → get_or numbers l 0 ≡ get_or numbers m 0 → l ≡ m
+
+relabelled_apart : (numbers : List ℕ) (nodes : List Branch) → AreApart numbers nodes → (i j : ℕ) (m n : Branch) → slice_get nodes i ≡ Some m → slice_get nodes j ≡ Some n → relabelled numbers m ≡ relabelled numbers n → m ≡ n
+relabelled_apart numbers nodes h i j (Leaf l) (Leaf l') a b e = ap Leaf (h l l' (i, a) (j, b) (cc))
+relabelled_apart numbers nodes h i j (Leaf l) (Split s lo hi) a b e = absurd (cc)
+relabelled_apart numbers nodes h i j (Split s lo hi) (Leaf l) a b e = absurd (cc)
+relabelled_apart numbers nodes h i j (Split s lo hi) (Split s' lo' hi') a b e = e
+
+relabelled_distinct : (numbers : List ℕ) (nodes : List Branch) → AreDistinct nodes → AreApart numbers nodes → AreDistinct (map (relabelled numbers) nodes)
+relabelled_distinct numbers nodes distinct h i j lt j_in e =
+    let size : length (map (relabelled numbers) nodes) ≡ length nodes = length-map nodes (relabelled numbers) in
+    let j_in' : j < length nodes = omega (arith, j_in, size) in
+    let i_in' : i < length nodes = omega arith in
+    let x : slice_get nodes i ≡ Some (get_or nodes i (Leaf 0)) = slice_get-get_or nodes i (Leaf 0) i_in' in
+    let y : slice_get nodes j ≡ Some (get_or nodes j (Leaf 0)) = slice_get-get_or nodes j (Leaf 0) j_in' in
+    let here : Some (relabelled numbers (get_or nodes i (Leaf 0))) ≡ Some (relabelled numbers (get_or nodes j (Leaf 0))) =
+    sym (slice_get-map (relabelled numbers) nodes i ∙ ap (option_map (relabelled numbers)) x) ∙ e ∙ slice_get-map (relabelled numbers) nodes j ∙ ap (option_map (relabelled numbers)) y in
+    let same : get_or nodes i (Leaf 0) ≡ get_or nodes j (Leaf 0) = relabelled_apart numbers nodes h i j _ _ x y (Some-same here) in
+    distinct i j lt j_in' (x ∙ ap (λ n. Some n) same ∙ sym y)
+
+relabelled_visits : (numbers : List ℕ) (nodes : List Branch) (from place upto : ℕ) → Visits nodes from place upto → Visits (map (relabelled numbers) nodes) from place upto
+relabelled_visits numbers nodes from place _ (known _ _ h) = known from place h
+relabelled_visits numbers nodes _ place _ (leaf _ l e) =
+    leaf place (get_or numbers l 0) (slice_get-map (relabelled numbers) nodes place ∙ ap (option_map (relabelled numbers)) e)
+relabelled_visits numbers nodes from place _ (fork _ middle _ s lo hi e v u) =
+    fork from middle place s lo hi (slice_get-map (relabelled numbers) nodes place ∙ ap (option_map (relabelled numbers)) e)
+    (relabelled_visits numbers nodes from lo middle v) (relabelled_visits numbers nodes middle hi place u)
+
+pub relabelled_rooted : (w : ℕ) (numbers : List ℕ) (nodes : List Branch) → IsRooted w nodes → AreApart numbers nodes → IsRooted w (map (relabelled numbers) nodes)
+relabelled_rooted w numbers nodes r h = record {
+  some = omega (arith, r.some, size);
+  diagram = relabelled_diagram w numbers nodes r.diagram;
+  distinct = relabelled_distinct numbers nodes r.distinct h;
+  visits = subst (λ n. Visits (map (relabelled numbers) nodes) 0 (n - 1) n) (sym size) (relabelled_visits numbers nodes 0 (length nodes - 1) (length nodes) r.visits);
+}
+  where
+    size : length (map (relabelled numbers) nodes) ≡ length nodes
+    size = length-map nodes (relabelled numbers)
 
 pub relabelled_labels : (count : ℕ) (numbers : List ℕ) (nodes : List Branch) → ((i : ℕ) → get_or numbers i 0 < count) → AllLabels (λ l. l < count) (map (relabelled numbers) nodes)
 relabelled_labels count numbers nodes h place =
@@ -249,4 +321,4 @@ label_relabelled w numbers nodes now r e bits =
     let size : length now ≡ length nodes = ap (λ (t : List Branch). length t) e ∙ length-map nodes (relabelled numbers) in
     ap (λ q. label_at now q bits) (ap (λ q. q - 1) size)
     ∙ ap (λ (t : List Branch). label_at t last bits) e
-    ∙ relabelled_from w numbers nodes r.diagram (relabelled_rooted w numbers nodes r).diagram (length nodes) last bits (omega (arith, r.some)) (omega (arith, r.some))
+    ∙ relabelled_from w numbers nodes r.diagram (relabelled_diagram w numbers nodes r.diagram) (length nodes) last bits (omega (arith, r.some)) (omega (arith, r.some))

@@ -7,7 +7,7 @@ use Rattle.std.specs.Prelude.{◌⊎◌}
 use Rattle.word_core.specs.declared.branches.Branch.{Branch}
 use Rattle.word_core.specs.declared.branches.Branch.TheVariants.{Leaf, Split}
 use Rattle.word_core.specs.Tree.{label_at, label_from, next_label, side, IsNodeAt, IsTree, TestsBelow, AllTestBelow}
-use Rattle.letter_tree.specs.Diagram.{top, IsFork, IsNode, IsDiagram, IsRooted, TreeData, Grows, CanFork, IsForked}
+use Rattle.letter_tree.specs.Diagram.{top, IsFork, IsNode, IsDiagram, IsRooted, AreDistinct, Visits, leaf, TreeData, Grows, CanFork, IsForked}
 
 -- what stands in front stays there
 pub slice_get-front : {X : Type 0} (xs ys : List X) (i : ℕ) → i < length xs → slice_get (xs ++ ys) i ≡ slice_get xs i
@@ -207,3 +207,16 @@ AllTestBelow-diagram w nodes d place = go (slice_get nodes place) (d.node place)
     go None k = tt
     go (Some (Leaf l)) k = tt
     go (Some (Split s lo hi)) k = k.signal_in
+
+-- the tree of one label
+pub one_leaf : (w label : ℕ) (nodes : List Branch) → w ≤ 64 → nodes ≡ Leaf label ∷ [] → IsRooted w nodes
+one_leaf w label nodes narrow e = subst (IsRooted w) (sym e) (record {
+  some = omega arith;
+  diagram = record { narrow = narrow; node = node };
+  distinct = λ i j lt j_in _. omega (arith, lt, j_in);
+  visits = leaf 0 label refl;
+})
+  where
+    node : (place : ℕ) → IsNode w (Leaf label ∷ []) place (slice_get (Leaf label ∷ []) place)
+    node zero = tt
+    node (suc place) = tt

@@ -3,10 +3,14 @@ pub mod Copies
 pub mod CubeBits
 pub mod CutNodes
 pub mod Diagrams
+pub mod Distinct
 pub mod Joints
+pub mod LabelPairs
 pub mod Lists
 pub mod Notes
 pub mod Occurring
+pub mod OneTree
+pub mod Paths
 pub mod Rests
 pub mod SignalChoices
 pub mod SplitLines

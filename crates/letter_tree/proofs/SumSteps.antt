@@ -1,8 +1,9 @@
 -- Sums while they are passed on, and the labels behind them.
-use Rattle.std.proofs.Common.{Bool, true, false, cond, ◌≡◌, ℕ, zero, suc, ◌+◌, ◌-◌, ◌*◌, ◌/◌, ◌%◌, ◌^◌, ◌==◌, ◌<◌, ◌≤◌, List, [], ◌++◌, length, get_or, set, replicate, Option, Some, None, refl, sym, ap, ◌∙◌, subst, arith, inl, inr, ◌⊎◌, bit_or}
+use Rattle.std.proofs.Common.{Bool, true, false, cond, ◌≡◌, ◌≢◌, append-nil, ℕ, zero, suc, ◌+◌, ◌-◌, ◌*◌, ◌/◌, ◌%◌, ◌^◌, ◌==◌, ◌<◌, ◌≤◌, List, [], ◌++◌, length, get_or, set, replicate, Option, Some, None, refl, sym, ap, ◌∙◌, subst, arith, inl, inr, ◌⊎◌, bit_or}
 use Rattle.std.proofs.lemmas.Bool.{cases_eq, cases_lt}
 use Rattle.std.proofs.lemmas.Cmp.{ranked}
 use Rattle.std.proofs.lemmas.List.Elements.{All-nil, All-cons, All-append, Contains-append_left, Contains-append_right}
+use Rattle.std.proofs.lemmas.List.Quantifiers.{all_pairs_push}
 use Rattle.std.proofs.lemmas.List.Sorted.{All-permutation, Contains-permutation}
 use Rattle.std.proofs.lemmas.Nat.{pow_pos, or_comm, or_shifted, mod_below}
 use Rattle.std.proofs.lemmas.Option.{slice_get_within, slice_get-get_or}
@@ -17,12 +18,13 @@ use Rattle.std.specs.declared.cmp.Ordering.TheVariants.{Less, Equal, Greater}
 use Rattle.word_core.specs.declared.branches.Branch.{Branch}
 use Rattle.word_core.specs.declared.branches.Branch.TheVariants.{Leaf, Split}
 use Rattle.word_core.specs.Tree.{label_at, label_of, side}
-use Rattle.letter_tree.specs.Diagram.{top, IsFork, IsDiagram, IsRooted, HasLeaf}
+use Rattle.letter_tree.specs.Diagram.{top, IsFork, IsDiagram, IsRooted, AreDistinct, HasLeaf}
 use Rattle.letter_tree.specs.Occurrence.{AreLeasts}
 use Rattle.letter_tree.specs.Sums.{HasSum, IsLowered, ArePassed, ArePassing, HasLabelBy, ArePairsOf, label_pair}
 use Rattle.letter_tree.proofs.Copies.{slice_get-set_same, slice_get-set_other, Some-same, slice_get-replicate}
 use Rattle.letter_tree.proofs.Diagrams.{label_at-leaf, label_at-split}
 use Rattle.letter_tree.proofs.Joints.{fork_at}
+use Rattle.letter_tree.proofs.LabelPairs.{once_moved}
 use Rattle.letter_tree.proofs.Lists.{mod_next}
 
 pub IsLowered-put : (old : List (Option ℕ)) (place sum : ℕ) → place < length old → ((v : ℕ) → slice_get old place ≡ Some (Some v) → sum ≤ v) → IsLowered old place sum (set old place (Some sum))
@@ -63,16 +65,16 @@ or_bit sum s h =
     let swap : 1 * 2 ^ s + sum ≡ sum + 2 ^ s = omega arith in
     or_comm sum (2 ^ s) ∙ ap (λ n. bit_or n sum) (sym one) ∙ or_shifted 1 s sum h ∙ swap
 
-power_next : (s : ℕ) → 2 ^ (s + 1) ≡ 2 * 2 ^ s
+pub power_next : (s : ℕ) → 2 ^ (s + 1) ≡ 2 * 2 ^ s
 power_next s = let e : s + 1 ≡ suc s = omega arith in ap (λ n. 2 ^ n) e ∙ pow-succ' 2 s
 
-below_power : (a b n : ℕ) → a ≤ b → n < 2 ^ a → n < 2 ^ b
+pub below_power : (a b n : ℕ) → a ≤ b → n < 2 ^ a → n < 2 ^ b
 below_power a b n h k =
     let p : 2 ^ a ≤ 2 ^ b = pow-le-pow_right (omega arith) h in
     omega arith
 
 -- fewer bits of what is given by more
-fewer : (bits a b v : ℕ) → a ≤ b → v < 2 ^ a → bits % 2 ^ b ≡ v → bits % 2 ^ a ≡ v
+pub fewer : (bits a b v : ℕ) → a ≤ b → v < 2 ^ a → bits % 2 ^ b ≡ v → bits % 2 ^ a ≡ v
 fewer bits a b v le small e =
     let more : b - a + a ≡ b = omega arith in
     sym (mod-mod-pow bits (b - a) a) ∙ ap (λ n. bits % 2 ^ n % 2 ^ a) more ∙ ap (λ n. n % 2 ^ a) e ∙ mod-eq_of_lt small
@@ -107,10 +109,10 @@ high_most : (a b x p v most : ℕ) → a ≡ x + b → x ≡ p → v ≤ b → a
 high_most a b x p v most e f l m = omega arith
 
 -- the part of a valuation's bit
-side_at : (s lo hi bits : ℕ) (b : Bool) → (bits / 2 ^ s % 2 == 1) ≡ b → side s lo hi bits ≡ cond b hi lo
+pub side_at : (s lo hi bits : ℕ) (b : Bool) → (bits / 2 ^ s % 2 == 1) ≡ b → side s lo hi bits ≡ cond b hi lo
 side_at s lo hi bits b e = ap (λ t. cond t hi lo) e
 
-unset_bit : (bits s sum : ℕ) → sum < 2 ^ s → bits % 2 ^ (s + 1) ≡ sum → ((bits / 2 ^ s % 2 == 1) ≡ false) × (bits % 2 ^ s ≡ sum)
+pub unset_bit : (bits s sum : ℕ) → sum < 2 ^ s → bits % 2 ^ (s + 1) ≡ sum → ((bits / 2 ^ s % 2 == 1) ≡ false) × (bits % 2 ^ s ≡ sum)
 unset_bit bits s sum small e = go (times (bits / 2 ^ s % 2) (2 ^ s) (bit_value bits s))
   where
     next : bits % 2 ^ (s + 1) ≡ bits / 2 ^ s % 2 * 2 ^ s + bits % 2 ^ s
@@ -120,7 +122,7 @@ unset_bit bits s sum small e = go (times (bits / 2 ^ s % 2) (2 ^ s) (bit_value b
     go (inl z) = (ap (λ n. n == 1) z.0, low_alone (bits % 2 ^ (s + 1)) (bits % 2 ^ s) (bits / 2 ^ s % 2 * 2 ^ s) sum next z.1 e)
     go (inr o) = absurd (too_low (bits % 2 ^ (s + 1)) (bits % 2 ^ s) (bits / 2 ^ s % 2 * 2 ^ s) (2 ^ s) sum next o.1 e small)
 
-set_bit : (bits s sum : ℕ) → sum < 2 ^ s → bits % 2 ^ (s + 1) ≡ sum + 2 ^ s → ((bits / 2 ^ s % 2 == 1) ≡ true) × (bits % 2 ^ s ≡ sum)
+pub set_bit : (bits s sum : ℕ) → sum < 2 ^ s → bits % 2 ^ (s + 1) ≡ sum + 2 ^ s → ((bits / 2 ^ s % 2 == 1) ≡ true) × (bits % 2 ^ s ≡ sum)
 set_bit bits s sum small e = go (times (bits / 2 ^ s % 2) (2 ^ s) (bit_value bits s))
   where
     next : bits % 2 ^ (s + 1) ≡ bits / 2 ^ s % 2 * 2 ^ s + bits % 2 ^ s
@@ -367,22 +369,43 @@ leaf_by w nodes sums d p bits (suc n) place h i k = go (slice_get nodes place) r
 
 -- one more leaf
 pub pairs_start : (nodes : List Branch) (sums : List (Option ℕ)) → ArePairsOf nodes sums 0 []
-pairs_start nodes sums = record { each = All-nil _; all = λ place label sum lt e k. absurd (omega arith) }
+pairs_start nodes sums = record { each = All-nil _; all = λ place label sum lt e k. absurd (omega arith); once = λ i j d lt j_in. absurd (omega (arith, j_in)) }
 
-pub pairs_more : (nodes : List Branch) (sums : List (Option ℕ)) (place : ℕ) (node : Branch) (sum : Option ℕ) (old new : List (ℕ × ℕ)) → new ≡ old ++ label_pair node sum
+pub pairs_more : (nodes : List Branch) (sums : List (Option ℕ)) (place : ℕ) (node : Branch) (sum : Option ℕ) (old new : List (ℕ × ℕ)) → AreDistinct nodes → new ≡ old ++ label_pair node sum
     → slice_get nodes place ≡ Some node → slice_get sums place ≡ Some sum → ArePairsOf nodes sums place old → ArePairsOf nodes sums (place + 1) new
-pairs_more nodes sums place node sum old new e en es h = record {
-  each = subst (All P) (sym e) (All-append P old (label_pair node sum) h.each (own node sum en es));
+pairs_more nodes sums place node sum old new distinct e en es h = record {
+  each = subst (All P) (sym e) (All-append P old (label_pair node sum) earlier (own node sum en es));
+  once = subst (AllPairs Apart) (sym e) (once node sum en);
   all = λ q label v lt eq ev. subst (λ l. Contains l (v, label)) (sym e) (found q label v lt eq ev (cases_lt q place));
 }
   where
     P : ℕ × ℕ → Type 0
-    P p = (q : ℕ) × (slice_get nodes q ≡ Some (Leaf p.1)) × (slice_get sums q ≡ Some (Some p.0))
+    P p = (q : ℕ) × (slice_get nodes q ≡ Some (Leaf p.1)) × (slice_get sums q ≡ Some (Some p.0)) × (q < place + 1)
+
+    Apart : ℕ × ℕ → ℕ × ℕ → Type 0
+    Apart p q = p.1 ≢ q.1
+
+    earlier : All P old
+    earlier k d lt =
+        let f = h.each k d lt in
+        let less : f.0 < place = f.3 in
+        (f.0, f.1, f.2, omega arith)
+
+    -- an earlier leaf has another label
+    other : (label k : ℕ) (d : ℕ × ℕ) → slice_get nodes place ≡ Some (Leaf label) → k < length old → (get_or old k d).1 ≡ label → ⊥
+    other label k d a lt same =
+        let f = h.each k d lt in
+        distinct f.0 place f.3 (slice_get_within nodes place (Leaf label) a) (f.1 ∙ ap (λ l. Some (Leaf l)) same ∙ sym a)
+
+    once : (x : Branch) (o : Option ℕ) → slice_get nodes place ≡ Some x → AllPairs Apart (old ++ label_pair x o)
+    once (Split s lo hi) o a = subst (AllPairs Apart) (sym (append-nil old)) h.once
+    once (Leaf l) None a = subst (AllPairs Apart) (sym (append-nil old)) h.once
+    once (Leaf l) (Some v) a = all_pairs_push Apart old (v, l) h.once (λ k d lt. other l k d a lt)
 
     own : (x : Branch) (o : Option ℕ) → slice_get nodes place ≡ Some x → slice_get sums place ≡ Some o → All P (label_pair x o)
     own (Split s lo hi) o a b = All-nil P
     own (Leaf l) None a b = All-nil P
-    own (Leaf l) (Some v) a b = All-cons P (v, l) [] (place, a, b) (All-nil P)
+    own (Leaf l) (Some v) a b = All-cons P (v, l) [] (place, a, b, omega arith) (All-nil P)
 
     here : (x : Branch) (o : Option ℕ) (label v : ℕ) → x ≡ Leaf label → o ≡ Some v → Contains (label_pair x o) (v, label)
     here x o label v a b = subst (λ y. Contains (label_pair y o) (v, label)) (sym a) (subst (λ y. Contains (label_pair (Leaf label) y) (v, label)) (sym b) (0, omega arith, refl))
@@ -396,7 +419,11 @@ pairs_more nodes sums place node sum old new e en es h = record {
         Contains-append_right old (label_pair node sum) (v, label) (here node sum label v a b)
 
 pub pairs_all : (nodes : List Branch) (sums : List (Option ℕ)) (i : ℕ) (pairs : List (ℕ × ℕ)) → length nodes ≤ i → ArePairsOf nodes sums i pairs → ArePairsOf nodes sums (length nodes) pairs
-pairs_all nodes sums i pairs le h = record { each = h.each; all = λ place label sum lt e k. h.all place label sum (omega arith) e k }
+pairs_all nodes sums i pairs le h = record {
+  each = λ k d lt. (let f = h.each k d lt in (f.0, f.1, f.2, slice_get_within nodes f.0 (Leaf (get_or pairs k d).1) f.1));
+  all = λ place label sum lt e k. h.all place label sum (omega arith) e k;
+  once = h.once;
+}
 
 -- in a sorted list the first numbers don't fall
 not_later : (p q : ℕ × ℕ) (o : Ordering) → MatchOrdering o (q.0 < p.0) (q.0 ≡ p.0) (p.0 < q.0) → is_lt (ordering_then o (nat_cmp q.1 p.1)) ≡ false → p.0 ≤ q.0
@@ -424,12 +451,13 @@ leasts_exact w nodes sums pairs sorted r p h moved up = record {
   each = All-permutation Q pairs sorted moved (λ k d lt. exact (get_or pairs k d) (h.each k d lt));
   all = all;
   rising = sorted_from sorted up;
+  once = once_moved pairs sorted h.once moved;
 }
   where
     Q : ℕ × ℕ → Type 0
     Q x = (x.0 < 2 ^ w) × (label_of nodes x.0 ≡ x.1)
 
-    exact : (x : ℕ × ℕ) → (q : ℕ) × (slice_get nodes q ≡ Some (Leaf x.1)) × (slice_get sums q ≡ Some (Some x.0)) → Q x
+    exact : (x : ℕ × ℕ) → (q : ℕ) × (slice_get nodes q ≡ Some (Leaf x.1)) × (slice_get sums q ≡ Some (Some x.0)) × (q < length nodes) → Q x
     exact x f =
         let small : x.0 < 2 ^ w = subst (λ o. x.0 < 2 ^ top w o) f.1 (p.small f.0 x.0 f.2) in
         let whole : x.0 % 2 ^ top w (slice_get nodes f.0) ≡ x.0 = ap (λ o. x.0 % 2 ^ top w o) f.1 ∙ mod-eq_of_lt small in

@@ -3,7 +3,7 @@ use Rattle.std.specs.Prelude.{◌≡◌, ℕ, ◌+◌, ◌-◌, ◌/◌, ◌^◌
 use Rattle.word_core.specs.declared.branches.Branch.{Branch}
 use Rattle.word_core.specs.declared.branches.Branch.TheVariants.{Leaf}
 use Rattle.word_core.specs.Tree.{label_at, label_of}
-use Rattle.letter_tree.specs.Diagram.{IsDiagram, HasLeaf, top}
+use Rattle.letter_tree.specs.Diagram.{IsDiagram, IsRooted, HasLeaf, top}
 
 -- the node at a place of `out` is that at i, with each signal's number made smaller by floor
 pub record IsCopy (nodes : List Branch) (width floor : ℕ) (out : List Branch) (i place : ℕ) : Type 0 where
@@ -20,6 +20,7 @@ pub record IsCopying (nodes : List Branch) (width floor : ℕ) (out : List Branc
   pub room : length places ≡ length nodes
   pub diagram : IsDiagram (width - floor) out
   pub copied : (i place : ℕ) → slice_get places i ≡ Some (Some place) → IsCopy nodes width floor out i place
+  pub all : (place : ℕ) → place < length out → (i : ℕ) × (slice_get places i ≡ Some (Some place))
   pub single : (i j place : ℕ) → slice_get places i ≡ Some (Some place) → slice_get places j ≡ Some (Some place) → i ≡ j
   pub leaves : LeavesFrom nodes out
 
@@ -37,7 +38,6 @@ pub record IsPut (out : List Branch) (places : List (Option ℕ)) (i : ℕ) (nod
 
 -- a tree of the function of a node, with each signal's number made smaller by floor
 pub record IsReached (nodes : List Branch) (width floor root : ℕ) (out : List Branch) : Type 0 where
-  pub some : 0 < length out
-  pub diagram : IsDiagram (width - floor) out
+  pub rooted : IsRooted (width - floor) out
   pub label : (bits : ℕ) → label_of out (bits / 2 ^ floor) ≡ label_at nodes root bits
   pub leaves : LeavesFrom nodes out

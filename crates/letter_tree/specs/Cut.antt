@@ -1,5 +1,5 @@
 -- A tree cut after its first signals.
-use Rattle.std.specs.Prelude.{◌≡◌, ℕ, ◌+◌, ◌/◌, ◌^◌, ◌<◌, ◌≤◌, List, [], ◌∷◌, length, slice_get, slice_index, slice_index_or, Some, if◌then◌else◌, nat_lt}
+use Rattle.std.specs.Prelude.{◌≡◌, ◌≢◌, ℕ, ◌+◌, ◌-◌, ◌/◌, ◌^◌, ◌<◌, ◌≤◌, List, [], ◌∷◌, length, slice_get, slice_index, slice_index_or, Some, if◌then◌else◌, nat_lt}
 use Rattle.word_core.specs.declared.branches.Branch.{Branch}
 use Rattle.word_core.specs.declared.branches.Branch.TheVariants.{Leaf, Split}
 use Rattle.word_core.specs.Tree.{label_at, label_of}
@@ -44,6 +44,13 @@ no_tree = record { width = 0; nodes = [] }
 -- the label of the function with a number
 abbrev pub rest_label : List TreeData → ℕ → ℕ → ℕ
 rest_label rests number bits = label_of (slice_index_or rests number no_tree).nodes bits
+
+-- no two functions of the other signals are one; each one's number stands at some valuation of the first signals, and those of the
+-- earlier ones stand before
+pub record AreNumbered (whole width : ℕ) (front : List Branch) (rests : List TreeData) : Type 0 where
+  pub differ : (i j : ℕ) → i < j → j < length rests → (bits : ℕ) × (bits < 2 ^ (whole - width)) × (rest_label rests i bits ≢ rest_label rests j bits)
+  pub occur : (i : ℕ) → i < length rests → (bits : ℕ) × (bits < 2 ^ width) × (label_of front bits ≡ i)
+  pub order : (i j bits : ℕ) → i < j → label_of front bits ≡ j → (b : ℕ) × (b < bits) × (label_of front b ≡ i)
 
 -- the first signals lead to the number of a function of the others, and the two together to a valuation's label
 abbrev pub IsSplit : ℕ → List Branch → List Branch → List TreeData → Type 0

@@ -1,5 +1,5 @@
 -- Diagrams: lists of nodes whose parts stand earlier and test later signals.
-use Rattle.std.specs.Prelude.{◌≡◌, ◌≢◌, ℕ, ◌<◌, ◌≤◌, List, ◌++◌, length, slice_get, Option, Some, None}
+use Rattle.std.specs.Prelude.{◌≡◌, ◌≢◌, ℕ, ◌+◌, ◌-◌, ◌<◌, ◌≤◌, List, ◌++◌, length, slice_get, Option, Some, None}
 use Rattle.word_core.specs.declared.branches.Branch.{Branch}
 use Rattle.word_core.specs.declared.branches.Branch.TheVariants.{Leaf, Split}
 use Rattle.word_core.specs.Tree.{label_at, side}
@@ -33,10 +33,24 @@ pub record TreeData : Type 0 where
   pub width : ℕ
   pub nodes : List Branch
 
--- a tree of the width, with some node
+-- no two nodes are equal
+abbrev pub AreDistinct : List Branch → Type 0
+AreDistinct nodes = (i j : ℕ) → i < j → j < length nodes → slice_get nodes i ≢ slice_get nodes j
+
+-- a walk from a place, when the nodes before `from` have been met, meets those up to another place in their order: those of the
+-- part for 0, those of the part for 1, then the node
+pub data Visits (nodes : List Branch) : ℕ → ℕ → ℕ → Type 0 where
+  known : (from place : ℕ) → place < from → Visits nodes from place from
+  leaf : (place label : ℕ) → slice_get nodes place ≡ Some (Leaf label) → Visits nodes place place (place + 1)
+  fork : (from middle place signal low high : ℕ) → slice_get nodes place ≡ Some (Split signal low high)
+      → Visits nodes from low middle → Visits nodes middle high place → Visits nodes from place (place + 1)
+
+-- a tree of the width, with some node: its nodes differ, and stand in the order of a walk from the last one
 pub record IsRooted (width : ℕ) (nodes : List Branch) : Type 0 where
   pub some : 0 < length nodes
   pub diagram : IsDiagram width nodes
+  pub distinct : AreDistinct nodes
+  pub visits : Visits nodes 0 (length nodes - 1) (length nodes)
 
 -- some nodes were put behind those of a table
 pub record Grows (old new : TreeData) : Type 0 where

@@ -3,6 +3,7 @@ pub mod Copy
 pub mod Cubed
 pub mod Cut
 pub mod Diagram
+pub mod Function
 pub mod Join
 pub mod Listed
 pub mod Memo

@@ -13,11 +13,12 @@ labels_from seen (p ∷ pairs) = labels_from (if list_any (nat_eq p.1) seen then
 abbrev pub labels_in : List (ℕ × ℕ) → List ℕ
 labels_in pairs = labels_from [] pairs
 
--- pairs of a valuation and its label, ascending by valuation; each valuation's label stands behind one that is at most it
+-- pairs of a valuation and its label, ascending by valuation, no label twice; each valuation's label stands behind one that is at most it
 pub record AreLeasts (width : ℕ) (nodes : List Branch) (pairs : List (ℕ × ℕ)) : Type 0 where
   pub each : All (λ p. (p.0 < 2 ^ width) × (label_of nodes p.0 ≡ p.1)) pairs
   pub all : (bits : ℕ) → HasLabelBy pairs (label_of nodes bits) bits
   pub rising : AllPairs (λ p q. p.0 ≤ q.0) pairs
+  pub once : AllPairs (λ p q. p.1 ≢ q.1) pairs
 
 -- the labels that occur, each once, in the order of their least valuations
 pub record AreLabels (width : ℕ) (nodes : List Branch) (labels : List ℕ) : Type 0 where

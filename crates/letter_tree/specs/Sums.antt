@@ -1,6 +1,6 @@
 -- Least valuations that lead to places.
-use Rattle.std.specs.Prelude.{◌≡◌, ℕ, ◌+◌, ◌%◌, ◌^◌, ◌<◌, ◌≤◌, ◌⊎◌, List, [], ◌∷◌, length, slice_get, Option, Some, None}
-use Rattle.std.specs.List.{All, Contains}
+use Rattle.std.specs.Prelude.{◌≡◌, ◌≢◌, ℕ, ◌+◌, ◌%◌, ◌^◌, ◌<◌, ◌≤◌, ◌⊎◌, List, [], ◌∷◌, length, slice_get, Option, Some, None}
+use Rattle.std.specs.List.{All, AllPairs, Contains}
 use Rattle.word_core.specs.declared.branches.Branch.{Branch}
 use Rattle.word_core.specs.declared.branches.Branch.TheVariants.{Leaf, Split}
 use Rattle.word_core.specs.Tree.{label_at, label_of}
@@ -52,7 +52,8 @@ label_pair (Leaf label) (Some sum) = (sum, label) ∷ []
 abbrev pub HasLabelBy : List (ℕ × ℕ) → ℕ → ℕ → Type 0
 HasLabelBy pairs label most = (p : ℕ × ℕ) × Contains pairs p × (p.1 ≡ label) × (p.0 ≤ most)
 
--- each leaf with a sum has its label in a pair, and each pair is one of these
+-- each leaf with a sum among the first nodes has its label in a pair, each pair is one of these, and no label comes twice
 pub record ArePairsOf (nodes : List Branch) (sums : List (Option ℕ)) (upto : ℕ) (pairs : List (ℕ × ℕ)) : Type 0 where
-  pub each : All (λ p. (place : ℕ) × (slice_get nodes place ≡ Some (Leaf p.1)) × (slice_get sums place ≡ Some (Some p.0))) pairs
+  pub each : All (λ p. (place : ℕ) × (slice_get nodes place ≡ Some (Leaf p.1)) × (slice_get sums place ≡ Some (Some p.0)) × (place < upto)) pairs
   pub all : (place label sum : ℕ) → place < upto → slice_get nodes place ≡ Some (Leaf label) → slice_get sums place ≡ Some (Some sum) → Contains pairs (sum, label)
+  pub once : AllPairs (λ p q. p.1 ≢ q.1) pairs

@@ -3,7 +3,7 @@
 ghost use Rattle.std.specs.Prelude.{ℕ, ◌≡◌, ◌+◌, ◌-◌, ◌/◌, ◌^◌, ◌<◌, ◌≤◌, IfOk, All, Some, length, slice_index};
 ghost use Rattle.word_core.specs.Tree.{label_at, label_of, LabelHas, AllLabels};
 ghost use Rattle.letter_tree.specs.Diagram.{IsRooted, HasLeaf};
-ghost use Rattle.letter_tree.specs.Cut.{stopped, relabelled, end_at, rest_label, IsEnd, IsFront, ArePlaced, IsSplit};
+ghost use Rattle.letter_tree.specs.Cut.{stopped, relabelled, end_at, rest_label, IsEnd, IsFront, ArePlaced, IsSplit, AreNumbered};
 
 use crate::occurrences::leasts_of;
 use crate::reached_nodes::reached;
@@ -21,6 +21,7 @@ pub fn split(alloc: Global, t: &Tree, width: u32) -> Result<(Tree, Vec<Tree>), A
     ensures numbers { IfOk result (λ r. AllLabels (λ l. l < length r.1.items) r.0.nodes) }
     ensures some { IfOk result (λ r. 0 < length r.1.items) }
     ensures label { IfOk result (λ r. IsSplit width t.now.nodes r.0.nodes r.1.items) }
+    ensures order { IfOk result (λ r. AreNumbered t.now.width width r.0.nodes r.1.items) }
 {
     let nodes = t.branches();
     let whole = t.width();

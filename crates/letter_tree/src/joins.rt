@@ -3,6 +3,7 @@
 ghost use Rattle.std.specs.Prelude.{ℕ, ◌≡◌, ◌+◌, ◌<◌, ◌≤◌, IfOk, OnOk, IsTrue, ◌↔◌, length};
 ghost use Rattle.word_core.specs.Tree.{label_of};
 ghost use Rattle.letter_tree.specs.Diagram.{IsDiagram, Grows};
+ghost use Rattle.letter_tree.specs.Function.{AreOneFunction};
 ghost use Rattle.letter_tree.specs.Join.{AreJointly, IsJoin, IsJoining};
 
 use crate::memos::Memo;
@@ -33,9 +34,19 @@ pub fn apply<F: Fn(u64, u64) -> u64>(
 
 /// Whether two trees are one function of the same signals.
 pub fn equal(a: &Tree, b: &Tree) -> bool
-    ensures { IsTrue result ↔ (a.now ≡ b.now) }
+    ensures function { IsTrue result ↔ AreOneFunction a.now b.now }
+    ensures tree { IsTrue result ↔ (a.now ≡ b.now) }
 {
     a.width() == b.width() && a.branches() == b.branches()
+}
+
+/// Trees of one function of the same signals are equal.
+pub fn tree_is_one(a: &Tree, b: &Tree)
+    requires { AreOneFunction a.now b.now }
+    ensures { a.now ≡ b.now }
+{
+    let _ = a.branches();
+    let _ = b.branches();
 }
 
 /// How two nodes go on together: two labels, or the least signal that one of them tests with both

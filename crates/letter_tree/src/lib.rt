@@ -18,7 +18,7 @@ mod tables;
 mod trees;
 
 pub use cuts::split;
-pub use joins::{apply, equal};
+pub use joins::{apply, equal, tree_is_one};
 pub use occurrences::{labels, least, leasts_of};
 pub use splittings::patterns;
 pub use trees::{Tree, nodes};

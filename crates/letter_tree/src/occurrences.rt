@@ -2,7 +2,7 @@
 
 ghost use Rattle.std.specs.Prelude.{ℕ, ◌≡◌, ◌+◌, ◌^◌, ◌<◌, ◌≤◌, ◌++◌, IfOk, OnOk, IsTrue, false, Some, All, length, slice_get, slice_index};
 ghost use Rattle.word_core.specs.Tree.{IsTree};
-ghost use Rattle.letter_tree.specs.Diagram.{IsDiagram, IsRooted, HasLeaf};
+ghost use Rattle.letter_tree.specs.Diagram.{IsDiagram, IsRooted, AreDistinct, HasLeaf};
 ghost use Rattle.letter_tree.specs.Occurrence.{AreLeasts, AreLabels, labels_in};
 ghost use Rattle.letter_tree.specs.Sums.{ArePassing, ArePairsOf, IsLowered, label_pair};
 
@@ -68,6 +68,7 @@ fn labelled(
     sums: &[Option<u64>],
 ) -> Result<Vec<(u64, u64)>, AllocError>
     requires count { length sums.now ≡ length nodes.now }
+    requires distinct { AreDistinct nodes.now }
     ensures { IfOk result (λ v. ArePairsOf nodes.now sums.now (length nodes.now) v.items) }
 {
     let mut out = Vec::new(alloc);

@@ -1,7 +1,7 @@
 //! The nodes that a root reaches.
 
 ghost use Rattle.std.specs.Prelude.{ℕ, ◌≡◌, ◌+◌, ◌-◌, ◌<◌, ◌≤◌, ◌∷◌, [], ◌++◌, Some, None, IfOk, OnOk, length, slice_get, slice_set};
-ghost use Rattle.letter_tree.specs.Diagram.{IsDiagram, top};
+ghost use Rattle.letter_tree.specs.Diagram.{IsDiagram, AreDistinct, Visits, top};
 ghost use Rattle.letter_tree.specs.Copy.{IsCopying, GoesOn, IsReached, IsPut};
 
 use std::alloc::{AllocError, Global};
@@ -19,6 +19,7 @@ pub fn reached(
     requires diagram { IsDiagram width nodes.now }
     requires root_in { root < length nodes.now }
     requires above { floor ≤ top width (slice_get nodes.now root) }
+    requires distinct { AreDistinct nodes.now }
     ensures { IfOk result (λ out. IsReached nodes.now width floor root out.items) }
 {
     let mut out = Vec::with_capacity(alloc, nodes.len())?;
@@ -43,6 +44,8 @@ fn visit(
     ensures copying { OnOk result (IsCopying nodes.now width floor out.new.items places.new) }
     ensures goes_on { OnOk result (GoesOn out.old.items places.old out.new.items places.new) }
     ensures copied { IfOk result (λ place. slice_get places.new at ≡ Some (Some place)) }
+    ensures later { OnOk result ((i : ℕ) → at < i → slice_get places.new i ≡ slice_get places.old i) }
+    ensures walk { IfOk result (λ place. Visits out.new.items (length out.old.items) place (length out.new.items)) }
     ensures fresh { slice_get places.old at ≡ Some None → IfOk result (λ place. place + 1 ≡ length out.new.items) }
 {
     if let Some(place) = places[at as usize] {

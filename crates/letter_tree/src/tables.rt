@@ -25,7 +25,7 @@ impl Model for Table {
 }
 
 impl Table {
-    ghost use Rattle.letter_tree.specs.Diagram.{IsDiagram, Grows, CanFork, IsForked};
+    ghost use Rattle.letter_tree.specs.Diagram.{IsDiagram, AreDistinct, Grows, CanFork, IsForked};
     ghost use Rattle.word_core.specs.declared.branches.Branch.TheVariants.{Leaf};
 
     /// The table without nodes.
@@ -50,6 +50,7 @@ impl Table {
     pub fn nodes(&self) -> &[Branch]
         ensures value { result.now ≡ self.now.nodes }
         ensures known { IsDiagram self.now.width self.now.nodes }
+        ensures distinct { AreDistinct self.now.nodes }
     {
         self.set.as_slice()
     }

@@ -4,7 +4,7 @@ use Rattle.word_core.specs.Tree.{label_of, AllLabels}
 use Rattle.letter_tree.specs.Diagram.{TreeData, IsRooted}
 use Rattle.letter_tree.specs.Cut.{relabelled}
 use Rattle.letter_tree.proofs.CutNodes.{relabelled_rooted, relabelled_labels, relabelled-all, label_relabelled}
-use Rattle.letter_tree.proofs.Rests.{placed_label}
+use Rattle.letter_tree.proofs.Rests.{placed_label, numbers_apart}
 use Rattle.letter_tree.proofs.cuts.numbered.Goals as goal
 
 pub of_parts-requires : goal.of_parts-requires
@@ -13,7 +13,8 @@ of_parts-requires c =
     omega (arith, c.loop-node-test.false, ap (λ (t : List Branch). length t) c.branches-node-items.ensures.value) in
     let e : c.loop-node.nodes.items ≡ map (relabelled c.in_ok-numbers.numbers.items) c.args.cut.now.nodes = relabelled-all _ _ _ _ h c.loop-node.invariant in
     subst (λ w. IsRooted w c.loop-node.nodes.items) (sym c.width.ensures.width)
-    (subst (IsRooted c.args.cut.now.width) (sym e) (relabelled_rooted _ _ _ c.branches-node-items.ensures.known))
+    (subst (IsRooted c.args.cut.now.width) (sym e) (relabelled_rooted _ _ _ c.branches-node-items.ensures.known
+    (numbers_apart _ _ c.args.ends.now _ c.branches-node-items.ensures.known c.requires.known c.in_ok-numbers.ensures.places)))
 
 pub returns-clause-numbers : goal.returns-clause-numbers
 returns-clause-numbers c =
