@@ -16,7 +16,7 @@ use Rattle.tlsf_basic.specs.declared.specifications.Spec.{Spec}
 use Rattle.tlsf_basic.specs.Specification.{signal_count}
 use Rattle.word_core.specs.declared.names.Player.{Player}
 use Rattle.word_core.specs.declared.names.Player.TheVariants.{System, Environment}
-use Rattle.word_core.specs.Automaton.{AutomatonData}
+use Rattle.word_core.specs.Automaton.{AutomatonData, IsAutomaton}
 use Rattle.word_core.specs.Lasso.{LassoData, size}
 use Rattle.word_core.specs.Run.{Accepts}
 use Rattle.dual_game.specs.declared.errors.GameError.{GameError}
@@ -36,9 +36,9 @@ trimmed_accepts nodes root whole t truth same w some = (λ h. (truth w some).0 (
 
 -- what is trimmed is the automaton of the walk's states
 pub trimmed_tableau : (nodes : List Node) (root signals : ℕ) (whole t : AutomatonData) (spots : List Spot)
-    → all_spots (walk_data nodes signals) root ≡ found spots → whole ≡ automaton_in (walk_data nodes signals) spots → IsTrimmed whole t → IsTrimmedTableau nodes root signals t
-trimmed_tableau nodes root signals whole t spots walk is trimmed =
-    record { spots = spots; walk = walk; trimmed = subst (λ a. IsTrimmed a t) is trimmed }
+    → all_spots (walk_data nodes signals) root ≡ found spots → whole ≡ automaton_in (walk_data nodes signals) spots → IsTrimmed whole t → IsAutomaton t → IsTrimmedTableau nodes root signals t
+trimmed_tableau nodes root signals whole t spots walk is trimmed well =
+    record { spots = spots; walk = walk; trimmed = subst (λ a. IsTrimmed a t) is trimmed; well = well }
 
 -- where the walk stops
 pub tableau_limit : (nodes : List Node) (root signals : ℕ) (e : TableauError)
@@ -74,7 +74,7 @@ module _ (s : Spec) (who : Player) where
       pub avoids : (a : AutomatonData) → IsTrimmedTableau nodes root signals a → AcceptsTruthOf nodes root a → IsAutomatonOf s who a
       avoids a made truth =
           let at_count = subst (λ n. IsTrimmedTableau nodes root n a) count made in
-          record { nodes = nodes; root = root; spots = at_count.spots; normal = normal; walk = at_count.walk; trimmed = at_count.trimmed; accepts = accepted }
+          record { nodes = nodes; root = root; spots = at_count.spots; normal = normal; walk = at_count.walk; trimmed = at_count.trimmed; well = at_count.well; accepts = accepted }
         where
           accepted : (w : LassoData) → 0 < length w.cycle → Accepts a w ↔ (avoided who (holds_at w s.formula 0) ≡ true)
           accepted w some =

@@ -2,13 +2,16 @@ mod Alike
 pub mod Avoiding
 mod Counted
 mod Decided
+mod FullTree
 mod Grouped
 mod InOrder
 mod Lifting
+mod MadeRows
 mod Meeting
 pub mod OneAutomaton
 mod OneForm
 mod OneList
+pub mod OneWhole
 pub mod OneWinner
 mod Places
 mod Reached
@@ -18,3 +21,4 @@ mod Shared
 pub mod Tried
 mod Valuations
 mod Weaker
+mod WholeGame

@@ -13,7 +13,7 @@ use Rattle.tlsf_basic.specs.declared.specifications.Spec.{Spec}
 use Rattle.tlsf_basic.specs.Specification.{signal_count}
 use Rattle.word_core.specs.declared.names.Player.{Player}
 use Rattle.word_core.specs.declared.names.Player.TheVariants.{System, Environment}
-use Rattle.word_core.specs.Automaton.{AutomatonData}
+use Rattle.word_core.specs.Automaton.{AutomatonData, IsAutomaton}
 use Rattle.word_core.specs.Lasso.{LassoData}
 use Rattle.word_core.specs.Run.{Accepts}
 use Rattle.dual_game.specs.declared.errors.GameError.{GameError}
@@ -56,6 +56,7 @@ pub record IsAutomatonOf (s : Spec) (who : Player) (a : AutomatonData) : Type 0 
   pub normal : IsNormalOf s who nodes root
   pub walk : all_spots (walk_data nodes (signal_count s.names)) root ≡ found spots
   pub trimmed : IsTrimmed (automaton_in (walk_data nodes (signal_count s.names)) spots) a
+  pub well : IsAutomaton a
   pub accepts : (w : LassoData) → 0 < length w.cycle → Accepts a w ↔ (avoided who (holds_at w s.formula 0) ≡ true)
 
 pub record IsPairOf (s : Spec) (pair : Pair) : Type 0 where

@@ -147,5 +147,7 @@ fn trimmed(alloc: Global, f: &Normal, signals: u32) -> Result<Automaton, GameErr
     ensures accepts { IfOk result (AcceptsTruthOf f.now.nodes f.now.root) }
 {
     let whole = tableau(alloc, f, signals)?;
-    Ok(trim(alloc, &whole)?)
+    let least = trim(alloc, &whole)?;
+    let _ = least.states();
+    Ok(least)
 }

@@ -2,7 +2,7 @@
 
 ghost use Rattle.dual_game.specs.Automata.{AutomatonIsOne};
 ghost use Rattle.dual_game.specs.Counting.{CountingIsSound, CountingIsExact, LanesAreCounts};
-ghost use Rattle.dual_game.specs.Machines.{HeldListIsOne};
+ghost use Rattle.dual_game.specs.Machines.{HeldListIsOne, HeldMachineIsOne, WholeMachineIsOne};
 ghost use Rattle.dual_game.specs.Plays.{KeepsAbove, PlayIsOne, PlaysMeetOnce};
 ghost use Rattle.dual_game.specs.Winning.{KeptIsRefused, OnlyOneWins};
 
@@ -60,4 +60,15 @@ pub fn only_one_wins()
 /// the solver finds.
 pub fn held_list_is_one()
     ensures { HeldListIsOne }
+{}
+
+/// The maximal held vectors of a game have one machine. So what is said of such a machine is said of the one that is made.
+pub fn held_machine_is_one()
+    ensures { HeldMachineIsOne }
+{}
+
+/// An automaton over at most 40 signals has for each player and each bound up to 10,000 at most one machine that is that of
+/// the maximal held vectors in each of its games.
+pub fn whole_machine_is_one()
+    ensures { WholeMachineIsOne }
 {}

@@ -15,13 +15,14 @@ use Rattle.word_core.specs.Machine.{choice}
 use Rattle.word_core.specs.Tree.{label_of}
 use Rattle.letter_tree.specs.Diagram.{TreeData}
 use Rattle.letter_tree.specs.Splitting.{pattern_of, splitting}
-use Rattle.game_form.specs.Game.{GameData, ClassData, IsGame, own_width, other_width, class_at, no_class, of_first, of_second, class_of, action_of, letter_of}
+use Rattle.game_form.specs.Game.{GameData, ClassData, IsGame, own_width, other_width, class_at, no_class, class_of, action_of}
 use Rattle.strategy_play.specs.Answer.{answer_of, IsAnswer, Answers}
 use Rattle.strategy_play.specs.Lead.{lead, next_at, AreNexts, pick_or, pick, ArePicks, AreNumbers, all_lead, leader, AreTargets}
 use Rattle.strategy_play.specs.Line.{line_by_class, line_by_action}
 use Rattle.strategy_play.proofs.Leading.{all_same, leader_within}
-use Rattle.strategy_play.proofs.Made.{AreCubes, class_within}
-use Rattle.strategy_play.proofs.Splits.{want_within, want_held, splitting_holds}
+use Rattle.strategy_play.proofs.Made.{AreCubes, class_within, first_letter}
+use Rattle.strategy_play.proofs.Halves.{want_within, want_held}
+use Rattle.strategy_play.proofs.Splits.{splitting_holds}
 
 pub some_and : {X : Type 0} (o : Option X) (P Q : X → Type 0) → ((x : X) → P x → Q x) → IsSomeAnd o P → IsSomeAnd o Q
 some_and None P Q weaken h = h
@@ -85,11 +86,8 @@ first_answers g nexts place own class targets targets' cubes cubes' tree out kin
     subst (λ ls. IsSomeAnd (choice ls x) (λ l. IsAnswer g (lead nexts) x l.own l.next)) (sym (made ∙ ap (λ ts. map (line_by_action g own ts) cubes) same_targets ∙ ap (map (line_by_action g own targets')) same_cubes))
     (decides (line_by_action g own targets') (λ p. refl) (λ l. IsAnswer g (lead nexts) x l.own l.next) x cubes' (label_of tree.nodes x) each (cubes_are.split x))
   where
-    letter : (y : ℕ) → letter_of g own y ≡ own + y * 2 ^ own_width g
-    letter y = ap (λ k. of_first k own y + of_second k own y * 2 ^ of_first k (own_width g) (other_width g)) kind
-
     label : (y : ℕ) → label_of tree.nodes y ≡ get_or targets' (action_of g own y) 0
-    label y = labelled y ∙ ap (λ z. get_or targets' (label_of g.letters z) 0) (sym (letter y))
+    label y = labelled y ∙ ap (λ z. get_or targets' (label_of g.letters z) 0) (sym (first_letter g own y kind))
 
     each : All (λ p. holds p.0 x ≡ true → IsAnswer g (lead nexts) x (line_by_action g own targets' p).own (line_by_action g own targets' p).next) cubes'
     each k d lt h =

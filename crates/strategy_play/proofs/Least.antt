@@ -140,4 +140,5 @@ least_machine g known entries states letters covers order split is = record {
       (is.answers s l other lx);
   lines = split;
   breadth_first = is.breadth_first;
+  met = is.met;
 }

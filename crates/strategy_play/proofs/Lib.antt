@@ -1,11 +1,17 @@
 pub mod Answered
 pub mod Faults
+pub mod Halves
 pub mod Kept
 pub mod Leading
 pub mod Least
 pub mod Made
 pub mod Numbered
+pub mod OneMachine
+pub mod OneSplitting
 pub mod Played
+pub mod Reached
+pub mod Renumbering
 pub mod Restricted
 pub mod Splits
+pub mod Turns
 pub mod Walked

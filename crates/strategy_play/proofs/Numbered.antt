@@ -1,10 +1,13 @@
 -- Numbers of picks.
-use Rattle.std.proofs.Common.{◌≡◌, ℕ, zero, suc, ◌+◌, ◌<◌, ◌≤◌, Bool, true, false, cond, eqb, ◌&&◌, List, [], ◌∷◌, ◌++◌, length, get_or, Some, sym, ◌∙◌, ap, arith, inl, inr}
+use Rattle.std.proofs.Common.{◌≡◌, ◌≢◌, ℕ, zero, suc, ◌+◌, ◌<◌, ◌≤◌, Bool, true, false, cond, eqb, nat_lt, ◌&&◌, List, [], ◌∷◌, ◌++◌, length, get_or, Some, refl, sym, ◌∙◌, ap, subst, arith, inl, inr}
 use Rattle.std.specs.Prelude.{slice_get}
-use Rattle.std.proofs.lemmas.Bool.{cases_lt}
+use Rattle.std.specs.Bool.{Decides}
+use Rattle.std.specs.List.{AllPairs, IsDistinct}
+use Rattle.std.proofs.lemmas.Bool.{cases_lt, ltb-true, ltb-false}
 use Rattle.std.proofs.lemmas.Bool.Decides.{Decides-eqb}
 use Rattle.std.proofs.lemmas.List.{get_or_append_left, get_or_push}
-use Rattle.std.proofs.lemmas.Option.{same_Some}
+use Rattle.std.proofs.lemmas.Map.Made.{AllPairs-from_IsDistinct}
+use Rattle.std.proofs.lemmas.Option.{same_Some, slice_get_within, get_or_from_slice_get}
 use Rattle.strategy_play.specs.Lead.{AreNumbers}
 use Rattle.strategy_play.proofs.Leading.{and_left, and_right}
 
@@ -35,8 +38,29 @@ numbers_more picks keys new numbers count number there is here size old i lt = e
       ap (slice_get new) (get_or_push numbers number 0 i same) ∙ here ∙ ap (λ k. Some (get_or picks k (0, 0))) at)
 ]
 
-pub numbers_are : (picks keys : List (ℕ × ℕ)) (numbers : List ℕ) (count : ℕ) → length numbers ≡ length picks → length picks ≤ count → AreNumbered picks keys numbers count → AreNumbers picks numbers
-numbers_are picks keys numbers count size all are = record {
+-- no two places of distinct keys have one key
+key_once : (keys : List (ℕ × ℕ)) → AllPairs (λ p q. p ≢ q) keys → (m n : ℕ) (p : ℕ × ℕ) → slice_get keys m ≡ Some p → slice_get keys n ≡ Some p → m ≡ n
+key_once keys once m n p at_m at_n = by (nat_lt m n) refl (nat_lt n m) refl
+  where
+    apart : (i j : ℕ) → slice_get keys i ≡ Some p → slice_get keys j ≡ Some p → i < j → ⊥
+    apart i j at_i at_j less = once i j p less (slice_get_within keys j p at_j) (get_or_from_slice_get keys i p p at_i ∙ sym (get_or_from_slice_get keys j p p at_j))
+
+    by : (b : Bool) → nat_lt m n ≡ b → (c : Bool) → nat_lt n m ≡ c → m ≡ n
+    by true e c f = absurd (apart m n at_m at_n (ltb-true m n e))
+    by false e true f = absurd (apart n m at_n at_m (ltb-true n m f))
+    by false e false f = omega (arith, ltb-false m n e, ltb-false n m f)
+
+pub pair_decides : (p q : ℕ × ℕ) → Decides (eqb p.0 q.0 && eqb p.1 q.1) (p ≡ q)
+pair_decides p q = (λ e. sym (same_pair p q e), λ e. subst (λ r. (eqb p.0 r.0 && eqb p.1 r.1) ≡ true) e (itself p))
+  where
+    itself : (p : ℕ × ℕ) → (eqb p.0 p.0 && eqb p.1 p.1) ≡ true
+    itself p = ap (λ b. b && eqb p.1 p.1) ((Decides-eqb p.0 p.0).1 refl) ∙ (Decides-eqb p.1 p.1).1 refl
+
+pub numbers_are : (picks keys : List (ℕ × ℕ)) (numbers : List ℕ) (count : ℕ) → length numbers ≡ length picks → length picks ≤ count → IsDistinct (λ (p q : ℕ × ℕ). eqb p.0 q.0 && eqb p.1 q.1) keys → AreNumbered picks keys numbers count → AreNumbers picks numbers
+numbers_are picks keys numbers count size all distinct are = record {
   count = size;
   same = λ i j in_i in_j e. same_Some _ _ (sym (are i (omega arith)) ∙ ap (slice_get keys) e ∙ are j (omega arith));
+  once = λ i j in_i in_j e.
+      key_once keys (AllPairs-from_IsDistinct pair_decides keys distinct) (get_or numbers i 0) (get_or numbers j 0) (get_or picks j (0, 0))
+      (are i (omega arith) ∙ ap (λ (p : ℕ × ℕ). Some p) e) (are j (omega arith));
 }

@@ -12,9 +12,9 @@ use Rattle.word_core.specs.Machine.{choice, IsLine}
 use Rattle.game_form.specs.Game.{GameData, own_width, other_width}
 use Rattle.strategy_play.specs.Lead.{lead}
 use Rattle.letter_tree.specs.Splitting.{all_cube}
-use Rattle.strategy_play.specs.Splitting.{IsSplitting}
 use Rattle.strategy_play.specs.State.{IsState}
 use Rattle.strategy_play.specs.Walk.{open_count, IsWalk, Extends, IsRenumbered, InTurn, nexts_of}
+use Rattle.strategy_play.proofs.Renumbering.{lines_renumbered}
 
 -- one entry fewer is without a number
 open_falls : (numbers : List (Option ℕ)) (i n : ℕ) → i < length numbers → lead numbers i ≡ None → suc (open_count (set numbers i (Some n))) ≡ open_count numbers
@@ -122,15 +122,10 @@ zip_chosen order (l ∷ ls) (m ∷ ms) x z h =
     go true later is = refl
     go false later is = later is
 
-zip_whens : (order : List ℕ) (ls ms : List Line) → AllZip (IsRenumbered order) ls ms → map (λ m. m.when) ms ≡ map (λ l. l.when) ls
-zip_whens order [] [] z = refl
-zip_whens order [] (m ∷ ms) z = absurd z
-zip_whens order (l ∷ ls) [] z = absurd z
-zip_whens order (l ∷ ls) (m ∷ ms) z = ap (λ c. c ∷ map (λ m. m.when) ms) z.0.when ∙ ap (λ cs. l.when ∷ cs) (zip_whens order ls ms z.1)
-
 -- the lines of a state, renumbered
-pub state_renumbered : (g : GameData) (count : ℕ) (order : List ℕ) (ls ms : List Line) → AllZip (IsRenumbered order) ls ms → IsState g count ls → IsState g (length order) ms
-state_renumbered g count order ls ms z state =
+pub state_renumbered : (g : GameData) (count : ℕ) (order : List ℕ) (ls ms : List Line) → ((i j : ℕ) → i < length order → j < length order → get_or order i 0 ≡ get_or order j 0 → i ≡ j)
+    → AllZip (IsRenumbered order) ls ms → IsState g count ls → IsState g (length order) ms
+state_renumbered g count order ls ms once z state =
     let n = length_all_zip (IsRenumbered order) ls ms z in
     record {
       ranged = zip_ranged (own_width g) (other_width g) count order ls ms z state.ranged;
@@ -138,7 +133,7 @@ state_renumbered g count order ls ms z state =
       first = λ e d i j in_i in_j.
           let at = λ (k : ℕ) (lt : k < length ls). (AllZip-get_or (IsRenumbered order) ls ms k d d z lt).own in
           at i (omega arith) ∙ state.first e d i j (omega arith) (omega arith) ∙ sym (at j (omega arith));
-      split = subst (IsSplitting (other_width g) 0 all_cube) (sym (zip_whens order ls ms z)) state.split;
+      split = lines_renumbered order once (other_width g) 0 all_cube ls ms z state.split;
     }
 
 -- a state stays one while there are more

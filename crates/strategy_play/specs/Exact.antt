@@ -1,6 +1,6 @@
 -- The machine of a list of vectors in terms of single valuations, without classes, options and actions.
-use Rattle.std.specs.Prelude.{◌≡◌, ℕ, ◌<◌, ◌^◌, ℤ, List, [], length, Option, Some, slice_index, slice_index_or}
-use Rattle.std.specs.List.{All, flat_map}
+use Rattle.std.specs.Prelude.{◌≡◌, ℕ, ◌<◌, ◌^◌, ℤ, List, [], length, take, Option, Some, slice_index, slice_index_or}
+use Rattle.std.specs.List.{All, Contains, flat_map}
 use Rattle.std.specs.Option.{IsSome, IsSomeAnd}
 use Rattle.word_core.specs.declared.names.Kind.{Kind}
 use Rattle.word_core.specs.declared.names.Kind.TheVariants.{First, Second}
@@ -34,7 +34,8 @@ pub record IsLeast (g : GameData) (entries : List (List ℤ)) (f : List ℤ) (ot
 
 -- each state is an entry, no two are the same one, the first is the first entry at or above the initial vector; at each
 -- valuation of the other a state has the least own valuation that stays, and goes on to the entry to which it leads; its lines
--- split the valuations signal by signal; states are numbered breadth first: line by line of state by state each next is a number before, or the next number
+-- are the splitting of what they decide; states are numbered breadth first: line by line of state by state each next is a
+-- number before, or the next number, and each state but the first is the next of a line of a state before it
 pub record IsMachineOfList (g : GameData) (entries : List (List ℤ)) (states : List (List Line)) : Type 0 where
   pub order : List ℕ
   pub count : length order ≡ length states
@@ -45,3 +46,4 @@ pub record IsMachineOfList (g : GameData) (entries : List (List ℤ)) (states : 
       → IsSomeAnd (choice (slice_index_or states s []) other) (λ l. IsLeast g entries (entry_of_state entries order s) other l.own (slice_index order l.next))
   pub lines : All (AreSplit (other_width g)) states
   pub breadth_first : InTurn 1 (flat_map nexts_of states) (length states)
+  pub met : (s : ℕ) → 0 < s → s < length states → Contains (flat_map nexts_of (take s states)) s

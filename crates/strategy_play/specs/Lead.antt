@@ -55,7 +55,8 @@ pub record AreTargets (nexts : List (Option ℕ)) (options : List (ℕ × ℕ)) 
   pub below : (n : ℕ) → 0 < n → LeadBelow n nexts → (a : ℕ) → slice_index_or targets a 0 < n
   pub each : (i : ℕ) → i < length options → lead nexts (slice_index_or options i (0, 0)).0 ≡ Some (slice_index_or targets (slice_index_or options i (0, 0)).0 0)
 
--- a number for each pick, equal ones only for equal picks
+-- a number for each pick, equal ones exactly for equal picks
 pub record AreNumbers (picks : List (ℕ × ℕ)) (numbers : List ℕ) : Type 0 where
   pub count : length numbers ≡ length picks
   pub same : (i j : ℕ) → i < length picks → j < length picks → slice_index_or numbers i 0 ≡ slice_index_or numbers j 0 → slice_index_or picks i (0, 0) ≡ slice_index_or picks j (0, 0)
+  pub once : (i j : ℕ) → i < length picks → j < length picks → slice_index_or picks i (0, 0) ≡ slice_index_or picks j (0, 0) → slice_index_or numbers i 0 ≡ slice_index_or numbers j 0

@@ -1,6 +1,7 @@
 pub mod Answer
 pub mod Exact
 pub mod Example
+pub mod Laws
 pub mod Lead
 pub mod Line
 pub mod Ordered

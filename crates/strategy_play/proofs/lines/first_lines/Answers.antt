@@ -29,8 +29,9 @@ cubes_are c = record {
 pub returns-clause-state : goal.returns-clause-state
 returns-clause-state c =
     let own_is = ap (λ (k : ClassData). k.least) c.class.view_is in
+    let labelled = label_is c.in_ok-tree.tree _ _ _ _ _ _ _ c.deref.ensures.value c.letters.ensures c.own_width.ensures c.in_ok-tree.ensures.label in
     IfOk-weaker _ _ _ (λ (v : Vec Line Global) made. first_made c.args.g.now c.args.nexts.now c.class-class.result.now _ _ c.in_ok-targets.targets.items _ c.in_ok-cubes.cubes.items c.in_ok-tree.tree v.items c.requires.kind
-    c.class-class.ensures.known own_is c.in_ok-targets.ensures c.deref-2.ensures.value (cubes_are c) c.deref-3.ensures.value made) c.lines_by_action.ensures
+    c.class-class.ensures.known own_is c.in_ok-targets.ensures c.deref-2.ensures.value (cubes_are c) c.deref-3.ensures.value labelled made) c.lines_by_action.ensures
 
 pub returns-clause-answers : goal.returns-clause-answers
 returns-clause-answers c =

@@ -18,8 +18,10 @@ cubes_are c = record {
 
 pub returns-clause-state : goal.returns-clause-state
 returns-clause-state c =
-    IfOk-weaker _ _ _ (λ (v : Vec Line Global) made. second_made c.args.g.now c.args.nexts.now _ c.in_ok-picks.picks.items _ c.in_ok-cubes.cubes.items c.in_ok-tree.tree v.items c.known.ensures c.requires.kind
-    c.in_ok-picks.ensures c.deref-3.ensures.value (cubes_are c) c.deref-4.ensures.value (class_within c.args.g.now c.known.ensures) made) c.lines_by_class.ensures
+    let numbered = subst (λ ps. AreNumbers ps c.in_ok-numbers.numbers.items) c.deref.ensures.value c.in_ok-numbers.ensures in
+    let labelled = label_is c.in_ok-tree.tree _ c.in_ok-numbers.numbers.items _ c.args.g.now.firsts 0 0 0 c.deref-2.ensures.value c.firsts.ensures refl c.in_ok-tree.ensures.label in
+    IfOk-weaker _ _ _ (λ (v : Vec Line Global) made. second_made c.args.g.now c.args.nexts.now _ c.in_ok-picks.picks.items c.in_ok-numbers.numbers.items _ c.in_ok-cubes.cubes.items c.in_ok-tree.tree v.items c.known.ensures c.requires.kind
+    c.in_ok-picks.ensures c.deref-3.ensures.value numbered (cubes_are c) c.deref-4.ensures.value labelled (class_within c.args.g.now c.known.ensures) made) c.lines_by_class.ensures
 
 pub returns-clause-answers : goal.returns-clause-answers
 returns-clause-answers c =

@@ -1,5 +1,5 @@
-use Rattle.std.proofs.Common.{◌≡◌, ◌<◌, ◌≤◌, ◌-◌, length, map, get_or, Some}
-use Rattle.std.specs.List.{All, flat_map}
+use Rattle.std.proofs.Common.{◌≡◌, ℕ, ◌<◌, ◌≤◌, ◌-◌, length, map, take, get_or, Some}
+use Rattle.std.specs.List.{All, Contains, flat_map}
 use Rattle.game_form.specs.Vector.{initial}
 use Rattle.strategy_play.specs.Lead.{place_above}
 use Rattle.strategy_play.specs.State.{IsState}
@@ -15,6 +15,7 @@ invariant-walking l = record {
   seen : length l.states.items ≤ length l.walk.order.items;
   states : All (IsState l.g (length l.walk.order.items)) (map (λ v. v.items) l.states.items);
   answers : AnswersEach l.g l.d l.walk.order.items (map (λ v. v.items) l.states.items);
+  met : (s : ℕ) → 0 < s → s < length l.states.items → Contains (flat_map nexts_of (take s (map (λ v. v.items) l.states.items))) s;
   turns : InTurn 1 (flat_map nexts_of (map (λ v. v.items) l.states.items)) (length l.walk.order.items);
 }
 
