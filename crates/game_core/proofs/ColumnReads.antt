@@ -74,6 +74,9 @@ pub column_is : (g : GameData) (vectors : List (List ℤ)) (columns : List Colum
     → AreColumns g vectors columns → at < length columns → r ≡ slice_index_or columns at r → IsColumn g at vectors r.items
 column_is g vectors columns at r h lt e = subst (IsColumn g at vectors) (column_read columns at r lt e) (h.each at (let n = h.same_length in omega arith))
 
+pub column_none : (g : GameData) (action : ℕ) (vectors : List (List ℤ)) → IsColumn g action vectors []
+column_none g action vectors = record { short = omega arith; each = λ i d below. absurd (omega arith) }
+
 pub empty_columns : (g : GameData) (vectors : List (List ℤ)) (columns : List ColumnData) → length columns ≡ length g.actions → All (λ c. length c.items ≡ 0) columns → AreColumns g vectors columns
 empty_columns g vectors columns len none = record {
   same_length = len;

@@ -6,14 +6,14 @@ use Rattle.std.specs.declared.alloc.Global.{Global}
 use Rattle.std.proofs.lemmas.Bool.{cases_eq}
 use Rattle.std.proofs.lemmas.List.{get_or_default}
 use Rattle.std.proofs.lemmas.List.Elements.{All-more, All-take}
-use Rattle.std.proofs.lemmas.List.Folds.{Any-from_list_any, list_any_at, list_all_at}
+use Rattle.std.proofs.lemmas.List.Folds.{Any-from_list_any, list_any_at, list_any_none, list_all_at}
 use Rattle.counter_vec.specs.Counters.{at_or_below}
 use Rattle.counter_vec.proofs.Galois.{galois}
 use Rattle.game_form.specs.Game.{GameData, IsGame}
 use Rattle.game_form.specs.Vector.{IsVector, successor, predecessor}
 use Rattle.cpre_step.specs.Refinement.{action_works}
-use Rattle.game_core.specs.Columns.{AreColumns, AreFull, HaveGrown, column_at, some_covers, each_covers, ColumnData}
-use Rattle.game_core.specs.Front.{under}
+use Rattle.game_core.specs.Columns.{AreColumns, IsColumn, AreFull, HaveGrown, column_at, some_covers, each_covers, ColumnData}
+use Rattle.game_core.specs.Front.{Misses, under}
 use Rattle.game_core.specs.Plan.{AreActions, each_planned}
 use Rattle.game_core.proofs.ColumnReads.{column_of, column_here, column_there}
 use Rattle.game_core.proofs.Works.{any_weaker, all_weaker}
@@ -79,17 +79,37 @@ all_at p xs i d lt h = go (p (slice_index_or xs i d)) refl
     go true e = refl
     go false e = let none : list_all p xs ≡ false = list_all_at p xs i d lt e in cc
 
-module _ (g : GameData) (known : IsGame g) (vectors : List (List ℤ)) (fit : All (IsVector g) vectors) (columns : List ColumnData) (h : AreColumns g vectors columns) where
+-- some option of each class works, so of this one
+pub planned_at : (test : ℕ → Bool) (plan : List (Vec ℕ Global)) (i : ℕ) (d : Vec ℕ Global) (options : List ℕ) → i < length plan → options ≡ (slice_index_or plan i d).items
+    → each_planned test plan ≡ true → list_any test options ≡ true
+planned_at test plan i d options lt is planned = ap (list_any test) is ∙ all_at (λ (c : Vec ℕ Global). list_any test c.items) plan i d lt planned
+
+module _ (g : GameData) (known : IsGame g) (vectors : List (List ℤ)) (fit : All (IsVector g) vectors) where
   -- an action that leads u to an entry has an entry whose predecessor is at or above u
-  covers_where_works : (u : List ℤ) → IsVector g u → (action : ℕ) → action < length g.actions → length (column_at columns action) ≡ length vectors
-      → action_works g vectors u action ≡ true → under (column_at columns action) u ≡ true
-  covers_where_works u is action lt full hit =
+  column_covers : (u : List ℤ) → IsVector g u → (action : ℕ) → action < length g.actions → (column : List (List ℤ)) → IsColumn g action vectors column
+      → length column ≡ length vectors → action_works g vectors u action ≡ true → under column u ≡ true
+  column_covers u is action lt column c full hit =
       let a = Any-from_list_any (λ w. at_or_below (successor g action u) w) vectors hit in
-      let c = h.each action lt in
       let within : a.0 < length vectors = a.2 in
       let vector : IsVector g a.1 = subst (IsVector g) a.3 (fit a.0 a.1 within) in
-      list_any_at (λ e. at_or_below u e) (column_at columns action) a.0 a.1 (omega arith)
+      list_any_at (λ e. at_or_below u e) column a.0 a.1 (omega arith)
       (ap (at_or_below u) (c.each a.0 a.1 (omega arith) ∙ ap (predecessor g action) a.3) ∙ sym (galois g known action lt u a.1 is vector) ∙ a.4)
+
+  pub column_refuses : (u : List ℤ) → IsVector g u → (action : ℕ) → action < length g.actions → (column : List (List ℤ)) → IsColumn g action vectors column
+      → length column ≡ length vectors → Misses u column → action_works g vectors u action ≡ false
+  column_refuses u is action lt column c full miss = go (action_works g vectors u action) refl
+    where
+      go : (b : Bool) → action_works g vectors u action ≡ b → b ≡ false
+      go false e = refl
+      go true e =
+          let hit : under column u ≡ true = column_covers u is action lt column c full e in
+          let none : under column u ≡ false = list_any_none (λ w. at_or_below u w) column miss in
+          cc
+
+module _ (g : GameData) (known : IsGame g) (vectors : List (List ℤ)) (fit : All (IsVector g) vectors) (columns : List ColumnData) (h : AreColumns g vectors columns) where
+  covers_where_works : (u : List ℤ) → IsVector g u → (action : ℕ) → action < length g.actions → length (column_at columns action) ≡ length vectors
+      → action_works g vectors u action ≡ true → under (column_at columns action) u ≡ true
+  covers_where_works u is action lt = column_covers g known vectors fit u is action lt (column_at columns action) (h.each action lt)
 
   some_where_works : (u : List ℤ) → IsVector g u → (options : List ℕ) → AreActions (length g.actions) options → AreFull vectors columns options
       → list_any (action_works g vectors u) options ≡ true → some_covers u columns options ≡ true
@@ -104,17 +124,11 @@ module _ (g : GameData) (known : IsGame g) (vectors : List (List ℤ)) (fit : Al
       (λ k d lt. covers_where_works u is (slice_index_or options k d) (actions k d lt) (full k d lt))
 
   -- what remains below f for a class, and for some class
-  pub second_whole : (f : List ℤ) (plan : List (Vec ℕ Global)) (i : ℕ) (d e : Vec ℕ Global) (options tried : List ℕ) (pieces : List (List ℤ)) → i < length plan
-      → options ≡ (slice_index_or plan i d).items → tried ≡ (slice_index_or plan i e).items → All (λ c. AreActions (length g.actions) c.items) plan → AreFull vectors columns tried
+  pub some_whole : (f : List ℤ) (options : List ℕ) (pieces : List (List ℤ)) → AreActions (length g.actions) options → AreFull vectors columns options
       → ((u : List ℤ) → under pieces u ≡ (at_or_below u f && some_covers u columns options))
-      → (u : List ℤ) → IsVector g u → at_or_below u f ≡ true → each_planned (action_works g vectors u) plan ≡ true → under pieces u ≡ true
-  second_whole f plan i d e options tried pieces lt is same actions full made u vector below planned =
-      let known_actions : AreActions (length g.actions) options = subst (AreActions (length g.actions)) (sym is) (actions i d lt) in
-      let known_full : AreFull vectors columns options =
-      subst (AreFull vectors columns) (same ∙ ap (λ (c : Vec ℕ Global). c.items) (get_or_default plan i e d lt) ∙ sym is) full in
-      let works : list_any (action_works g vectors u) options ≡ true =
-      ap (list_any (action_works g vectors u)) is ∙ all_at (λ (c : Vec ℕ Global). list_any (action_works g vectors u) c.items) plan i d lt planned in
-      made u ∙ ap (λ b. b && some_covers u columns options) below ∙ some_where_works u vector options known_actions known_full works
+      → (u : List ℤ) → IsVector g u → at_or_below u f ≡ true → list_any (action_works g vectors u) options ≡ true → under pieces u ≡ true
+  some_whole f options pieces actions full made u vector below works =
+      made u ∙ ap (λ b. b && some_covers u columns options) below ∙ some_where_works u vector options actions full works
 
   pub first_whole : (f : List ℤ) (plan : List (Vec ℕ Global)) (pieces : List (List ℤ)) → All (λ c. AreActions (length g.actions) c.items) plan
       → All (λ c. AreFull vectors columns c.items) plan

@@ -6,6 +6,10 @@ ok_none_weaker (Ok None) h w = w h
 ok_none_weaker (Ok (Some x)) h w = h
 ok_none_weaker (Err e) h w = h
 
+pub none_weaker : {A P Q : Type 0} (o : Option A) → IfNone o P → (P → Q) → IfNone o Q
+none_weaker None h w = w h
+none_weaker (Some x) h w = h
+
 pub none_always : {A P : Type 0} (o : Option A) → P → IfNone o P
 none_always None h = h
 none_always (Some x) h = tt

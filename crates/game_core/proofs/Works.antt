@@ -16,9 +16,9 @@ use Rattle.game_form.specs.declared.actions.Step.{Step}
 use Rattle.game_form.specs.Game.{GameData, ClassData, IsGame, row_at, action_at, lanes}
 use Rattle.game_form.specs.Vector.{IsVector, lane, number, brought, arrived, bound, successor, predecessor}
 use Rattle.cpre_step.specs.Refinement.{action_works, answers, answers_by}
-use Rattle.game_core.specs.Columns.{AreColumns, column_at, some_covers, each_covers, ColumnData}
-use Rattle.game_core.specs.Front.{under}
-use Rattle.game_core.specs.Plan.{AreActions, IsAtMost, IsPlan, replaces_by, each_planned, each_class}
+use Rattle.game_core.specs.Columns.{AreColumns, IsColumn, MissesAll, column_at, some_covers, each_covers, ColumnData}
+use Rattle.game_core.specs.Front.{Misses, under}
+use Rattle.game_core.specs.Plan.{AreActions, NoneWorks, IsAtMost, IsPlan, replaces_by, each_planned, each_class}
 use Rattle.game_core.proofs.Orders.{below_from}
 
 pub any_weaker : {X : Type 0} (p q : X → Bool) (xs : List X) → All (λ x. p x ≡ true → q x ≡ true) xs → list_any p xs ≡ true → list_any q xs ≡ true
@@ -30,23 +30,40 @@ all_weaker p q (x ∷ xs) each h =
     let parts = and_parts (p x) (list_all p xs) h in
     rw (each zero x (omega arith) parts.0, all_weaker p q xs (λ k d lt. each (suc k) d (omega arith)) parts.1)
 
-module _ (g : GameData) (known : IsGame g) (vectors : List (List ℤ)) (f : List ℤ) (fit : All (IsVector g) vectors) (is : IsVector g f) (columns : List ColumnData) (h : AreColumns g vectors columns) where
+module _ (g : GameData) (known : IsGame g) (vectors : List (List ℤ)) (f : List ℤ) (fit : All (IsVector g) vectors) (is : IsVector g f) where
   -- an entry whose predecessor under the action is at or above f answers f
-  column_works : (action : ℕ) → action < length g.actions → under (column_at columns action) f ≡ true → action_works g vectors f action ≡ true
-  column_works action lt hit =
-      let a = Any-from_list_any (λ e. at_or_below f e) (column_at columns action) hit in
-      let c = h.each action lt in
+  pub column_works : (action : ℕ) → action < length g.actions → (column : List (List ℤ)) → IsColumn g action vectors column → under column f ≡ true → action_works g vectors f action ≡ true
+  column_works action lt column c hit =
+      let a = Any-from_list_any (λ e. at_or_below f e) column hit in
       let v : List ℤ = slice_index_or vectors a.0 a.1 in
-      let below : a.0 < length vectors = (let s = c.short in let k : a.0 < length (column_at columns action) = a.2 in omega arith) in
+      let below : a.0 < length vectors = (let s = c.short in let k : a.0 < length column = a.2 in omega arith) in
       let e : a.1 ≡ predecessor g action v = sym a.3 ∙ c.each a.0 a.1 a.2 in
       list_any_at (λ w. at_or_below (successor g action f) w) vectors a.0 a.1 below
       (galois g known action lt f v is (fit a.0 a.1 below) ∙ ap (at_or_below f) (sym e) ∙ a.4)
 
+  -- f is at or below no predecessor where no entry answers it
+  column_missed : (action : ℕ) → action < length g.actions → (column : List (List ℤ)) → IsColumn g action vectors column → action_works g vectors f action ≡ false → Misses f column
+  column_missed action lt column c refused k d in_column = go (at_or_below f (slice_index_or column k d)) refl
+    where
+      go : (b : Bool) → at_or_below f (slice_index_or column k d) ≡ b → b ≡ false
+      go false e = refl
+      go true e = let hit = column_works action lt column c (list_any_at (λ w. at_or_below f w) column k d in_column e) in cc
+
+  pub columns_missed : (columns : List ColumnData) (options : List ℕ) → AreColumns g vectors columns → AreActions (length g.actions) options → NoneWorks g vectors f options
+      → MissesAll f columns options
+  columns_missed columns options h actions refused k d lt =
+      let a : ℕ = slice_index_or options k d in
+      column_missed a (actions k d lt) (column_at columns a) (h.each a (actions k d lt)) (refused k d lt)
+
+module _ (g : GameData) (known : IsGame g) (vectors : List (List ℤ)) (f : List ℤ) (fit : All (IsVector g) vectors) (is : IsVector g f) (columns : List ColumnData) (h : AreColumns g vectors columns) where
+  column_at_works : (action : ℕ) → action < length g.actions → under (column_at columns action) f ≡ true → action_works g vectors f action ≡ true
+  column_at_works action lt = column_works g known vectors f fit is action lt (column_at columns action) (h.each action lt)
+
   pub some_works_by : (options : List ℕ) → AreActions (length g.actions) options → some_covers f columns options ≡ true → list_any (action_works g vectors f) options ≡ true
-  some_works_by options actions = any_weaker (λ a. under (column_at columns a) f) (action_works g vectors f) options (λ k d lt. column_works (slice_index_or options k d) (actions k d lt))
+  some_works_by options actions = any_weaker (λ a. under (column_at columns a) f) (action_works g vectors f) options (λ k d lt. column_at_works (slice_index_or options k d) (actions k d lt))
 
   each_works_by : (options : List ℕ) → AreActions (length g.actions) options → each_covers f columns options ≡ true → list_all (action_works g vectors f) options ≡ true
-  each_works_by options actions = all_weaker (λ a. under (column_at columns a) f) (action_works g vectors f) options (λ k d lt. column_works (slice_index_or options k d) (actions k d lt))
+  each_works_by options actions = all_weaker (λ a. under (column_at columns a) f) (action_works g vectors f) options (λ k d lt. column_at_works (slice_index_or options k d) (actions k d lt))
 
   pub class_works_by : (plan : List (Vec ℕ Global)) → All (λ c. AreActions (length g.actions) c.items) plan → list_any (λ c. each_covers f columns c.items) plan ≡ true
       → list_any (λ c. list_all (action_works g vectors f) c.items) plan ≡ true

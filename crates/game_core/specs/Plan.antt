@@ -1,15 +1,20 @@
 -- Lists of actions, and the classes that a solver has to try.
-use Rattle.std.specs.Prelude.{◌≡◌, ℕ, ◌<◌, ◌≤◌, Bool, true, List, length, Vec}
+use Rattle.std.specs.Prelude.{◌≡◌, ℕ, ℤ, ◌<◌, ◌≤◌, Bool, true, false, List, length, Vec}
 use Rattle.std.specs.List.{All, list_any, list_all}
 use Rattle.std.specs.declared.alloc.Global.{Global}
 use Rattle.word_core.specs.declared.names.Kind.{Kind}
 use Rattle.word_core.specs.declared.names.Kind.TheVariants.{First, Second}
 use Rattle.game_form.specs.Game.{GameData, ClassData, action_at, row_at, lanes}
 use Rattle.game_form.specs.Vector.{number}
+use Rattle.cpre_step.specs.Refinement.{action_works}
 
 -- each number is an action, of so many
 abbrev pub AreActions : ℕ → List ℕ → Type 0
 AreActions count = All (λ a. a < count)
+
+-- under none of these actions the successor of f is at or below an entry
+abbrev pub NoneWorks : GameData → List (List ℤ) → List ℤ → List ℕ → Type 0
+NoneWorks g vectors f options = All (λ a. action_works g vectors f a ≡ false) options
 
 -- no number of action a is above that of action b
 abbrev pub IsAtMost : GameData → ℕ → ℕ → Type 0

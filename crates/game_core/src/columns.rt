@@ -5,12 +5,18 @@ use counter_vec::Counters;
 use std::alloc::{AllocError, Global};
 use std::marker::Model;
 
+/// How many entries may be taken out of a column that isn't wanted before it is emptied.
+const PATIENCE: usize = 64;
+
 /// The predecessors of the first entries under one action, each with the place of one at or above it. Only those
-/// that point to themselves are compared.
+/// that point to themselves are compared. To keep a column up costs something at each exchange of an entry, so one that
+/// isn't wanted for long is emptied.
 #[derive(Drop)]
 pub struct Column {
     lows: Vec<Counters>,
     over: Vec<usize>,
+    /// How many entries were taken out since it was wanted last.
+    idle: usize,
 }
 
 impl Model for Column {
@@ -37,6 +43,7 @@ impl Column {
         Column {
             lows: Vec::new(alloc),
             over: Vec::new(alloc),
+            idle: 0,
         }
     }
 
@@ -71,11 +78,33 @@ impl Column {
         push_low(&mut self.lows, &mut self.over, low)
     }
 
+    /// Says that all predecessors are wanted.
+    pub fn want(&mut self)
+        ensures { self.new.items ≡ self.old.items }
+    {
+        self.idle = 0;
+    }
+
+    /// Whether it wasn't wanted while many entries were taken out.
+    pub fn is_idle(&self) -> bool {
+        self.idle >= PATIENCE
+    }
+
+    /// Takes all predecessors out.
+    pub fn clear(&mut self)
+        ensures { self.new.items ≡ [] }
+    {
+        self.lows.clear();
+        self.over.clear();
+        self.idle = 0;
+    }
+
     /// Takes the predecessor at a place out.
     pub fn take(&mut self, place: usize)
         requires { place < length self.old.items }
         ensures { self.new.items ≡ remove self.old.items place }
     {
+        self.idle = self.idle.saturating_add(1);
         take_low(&mut self.lows, &mut self.over, place);
     }
 

@@ -13,7 +13,7 @@ ghost use Rattle.game_core.specs.Remains.{AreRemains, KeepsAnswered};
 ghost use Rattle.counter_vec.specs.Counters.{at_or_below};
 
 use crate::columns::Column;
-use crate::fronts::{Note, forget_place, is_under, sum_of};
+use crate::fronts::{Note, forget_place, is_likely_under, sum_of};
 use counter_vec::Counters;
 use game_form::Game;
 use std::alloc::{AllocError, Global};
@@ -39,12 +39,14 @@ fn forget(notes: &mut Vec<Note>, pending: &mut Vec<bool>, gone: usize)
     }
 }
 
-/// Takes place `gone` out of a column, where it has it.
+/// Takes place `gone` out of a column, where it has it. One that isn't wanted for long is emptied.
 #[tactic(auto, using(crate::proofs::ColumnReads::column_kept))]
 fn drop_from(column: &mut Column, gone: usize)
     ensures { (g : GameData) (action : ℕ) (vectors : List (List ℤ)) → gone < length vectors → IsColumn g action vectors column.old.items → IsColumn g action (remove vectors gone) column.new.items }
 {
-    if gone < column.len() {
+    if column.is_idle() {
+        column.clear();
+    } else if gone < column.len() {
         column.take(gone);
     }
 }
@@ -88,7 +90,7 @@ fn push_entry(
     Ok(())
 }
 
-/// Puts one piece of `f`, where no entry is at or above it. None is below it, since none is below `f`.
+/// Puts one piece of `f`, where no entry is at or above it, that at `likely` least of all. None is below it, since none is below `f`.
 #[tactic(auto, using(crate::proofs::Replacements::entries_pushed, crate::proofs::Replacements::misses_pushed, crate::proofs::Replacements::under_pushed, crate::proofs::ColumnReads::columns_pushed))]
 fn put_piece(
     alloc: Global,
@@ -97,6 +99,7 @@ fn put_piece(
     piece: Counters,
     note: &Note,
     g: &Game,
+    likely: &mut usize,
 ) -> Result<(), AllocError>
     requires entry { IsVector g.now f.now }
     requires piece { IsPiece f.now piece }
@@ -110,7 +113,7 @@ fn put_piece(
     ensures columns { OnOk result ((columns : List ColumnData) → AreColumns g.now entries.old.vectors.items columns → AreColumns g.now entries.new.vectors.items columns) }
     ensures under { (old : List (List ℤ)) → All (λ e. under (f.now ∷ old) e ≡ true) entries.old.vectors.items → OnOk result (All (λ e. under (f.now ∷ old) e ≡ true) entries.new.vectors.items) }
 {
-    if is_under(&entries.vectors, &piece) {
+    if is_likely_under(&entries.vectors, &piece, likely) {
         return Ok(());
     }
     push_entry(alloc, entries, piece, note)?;
@@ -139,8 +142,9 @@ fn put_pieces(
     ensures columns { OnOk result ((columns : List ColumnData) → AreColumns g.now entries.old.vectors.items columns → AreColumns g.now entries.new.vectors.items columns) }
     ensures under { OnOk result (All (λ e. under (f.now ∷ entries.old.vectors.items) e ≡ true) entries.new.vectors.items) }
 {
+    let mut likely = 0;
     for piece in pieces {
-        put_piece(alloc, entries, f, piece, note, g)?;
+        put_piece(alloc, entries, f, piece, note, g, &mut likely)?;
     }
     Ok(())
 }

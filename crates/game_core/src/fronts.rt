@@ -100,13 +100,29 @@ pub fn is_under(vectors: &[Counters], v: &Counters) -> bool
     find_cover(vectors, v).is_some()
 }
 
-/// The place of an entry at or above `v`.
+/// Whether an entry is at or above `v`. The one at the place `likely`, which was the last that was found, is tried first.
+pub fn is_likely_under(vectors: &[Counters], v: &Counters, likely: &mut usize) -> bool
+    ensures { result ≡ under vectors.now v.now }
+{
+    if *likely < vectors.len() && v.at_or_below(&vectors[*likely]) {
+        return true;
+    }
+    match find_cover(vectors, v) {
+        Some(place) => {
+            *likely = place;
+            true
+        }
+        None => false,
+    }
+}
+
+/// The place of the last entry at or above `v`.
 pub fn find_cover(vectors: &[Counters], v: &Counters) -> Option<usize>
     ensures some { IfSome result (λ i. i < length vectors.now) }
     ensures under { IfSome result (λ _. under vectors.now v.now ≡ true) }
     ensures none { IfNone result (Misses v.now vectors.now) }
 {
-    for i in 0..vectors.len() {
+    for i in (0..vectors.len()).rev() {
         if v.at_or_below(&vectors[i]) {
             return Some(i);
         }

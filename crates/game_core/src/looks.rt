@@ -1,13 +1,13 @@
 //! A look at one entry: whether the player can answer one step from it, and else what takes its place.
 
-ghost use Rattle.std.specs.Prelude.{◌≡◌, ◌<◌, ◌≤◌, ℕ, ℤ, List, true, length, vec_len, IfOk, IfSome, IfNone, OnOk};
+ghost use Rattle.std.specs.Prelude.{◌≡◌, ◌<◌, ◌≤◌, ℕ, ℤ, List, true, false, length, vec_len, IfOk, IfSome, IfNone, OnOk};
 ghost use Rattle.std.specs.List.{All, AllPairs, list_any, list_all};
 ghost use Rattle.counter_vec.specs.Counters.{at_or_below};
 ghost use Rattle.cpre_step.specs.Refinement.{action_works, answers};
 ghost use Rattle.game_form.specs.Vector.{IsVector};
 ghost use Rattle.game_core.specs.Columns.{AreColumns, AreFull, HaveGrown};
 ghost use Rattle.game_core.specs.Front.{IsApart, IsPiece, under};
-ghost use Rattle.game_core.specs.Plan.{AreActions, IsPlan, each_planned};
+ghost use Rattle.game_core.specs.Plan.{AreActions, IsPlan, NoneWorks, each_planned};
 ghost use Rattle.game_core.specs.Remains.{AreRemains};
 ghost use Rattle.game_core.specs.Tried.{HasTried};
 
@@ -21,7 +21,7 @@ use std::alloc::{AllocError, Global};
 use word_core::Kind;
 
 /// Looks at the entry `f`, of which something may be known: the vectors that take its place, or None where the
-/// player can answer one step from it.
+/// player can answer one step from it. Where what is known is trusted, None says nothing for kind second.
 pub fn look(
     alloc: Global,
     g: &Game,
@@ -30,6 +30,7 @@ pub fn look(
     f: &Counters,
     note: &mut Note,
     columns: &mut [Column],
+    trusted: bool,
 ) -> Result<Option<Vec<Counters>>, AllocError>
     requires plan { IsPlan g.now plan.now }
     requires vectors { All (IsVector g.now) vectors.now }
@@ -40,13 +41,37 @@ pub fn look(
     ensures answers { vec_len note.new.answers ≡ vec_len note.old.answers }
     ensures columns { AreColumns g.now vectors.now columns.new }
     ensures remains { IfOk result (λ o. IfSome o (λ v. AreRemains g.now vectors.now f.now v.items)) }
-    ensures stays { IfOk result (λ o. IfNone o (answers g.now vectors.now f.now ≡ true)) }
+    ensures stays { trusted ≡ false → IfOk result (λ o. IfNone o (answers g.now vectors.now f.now ≡ true)) }
 {
     g.known();
     match g.kind() {
-        Kind::Second => look_second(alloc, g, plan, vectors, f, note, columns),
+        Kind::Second => look_second(alloc, g, plan, vectors, f, note, columns, trusted),
         Kind::First => look_first(alloc, g, plan, vectors, f, note, columns),
     }
+}
+
+/// What remains of `f`, which no entry answers by one of these options.
+fn remains_of(
+    alloc: Global,
+    g: &Game,
+    vectors: &[Counters],
+    columns: &mut [Column],
+    f: &Counters,
+    options: &[u64],
+) -> Result<Vec<Counters>, AllocError>
+    requires vectors { All (IsVector g.now) vectors.now }
+    requires options { AreActions (length g.now.actions) options.now }
+    requires entry { IsVector g.now f.now }
+    requires columns { AreColumns g.now vectors.now columns.old }
+    requires refused { NoneWorks g.now vectors.now f.now options.now }
+    ensures columns { AreColumns g.now vectors.now columns.new }
+    ensures pieces { IfOk result (λ v. All (IsPiece f.now) v.items) }
+    ensures apart { IfOk result (λ v. AllPairs IsApart v.items) }
+    ensures whole { IfOk result (λ v. (u : List ℤ) → IsVector g.now u → at_or_below u f.now ≡ true → list_any (action_works g.now vectors.now u) options.now ≡ true → under v.items u ≡ true) }
+{
+    g.known();
+    fill(alloc, g, vectors, columns, options)?;
+    refine_options(alloc, f, columns, options)
 }
 
 /// For kind second: each class has an option that some entry answers.
@@ -58,6 +83,7 @@ fn look_second(
     f: &Counters,
     note: &mut Note,
     columns: &mut [Column],
+    trusted: bool,
 ) -> Result<Option<Vec<Counters>>, AllocError>
     requires plan { All (λ c. AreActions (length g.now.actions) c.items) plan.now }
     requires vectors { All (IsVector g.now) vectors.now }
@@ -69,14 +95,15 @@ fn look_second(
     ensures pieces { IfOk result (λ o. IfSome o (λ v. All (IsPiece f.now) v.items)) }
     ensures apart { IfOk result (λ o. IfSome o (λ v. AllPairs IsApart v.items)) }
     ensures whole { IfOk result (λ o. IfSome o (λ v. (u : List ℤ) → IsVector g.now u → at_or_below u f.now ≡ true → each_planned (action_works g.now vectors.now u) plan.now ≡ true → under v.items u ≡ true)) }
-    ensures stays { IfOk result (λ o. IfNone o (each_planned (action_works g.now vectors.now f.now) plan.now ≡ true)) }
+    ensures stays { trusted ≡ false → IfOk result (λ o. IfNone o (each_planned (action_works g.now vectors.now f.now) plan.now ≡ true)) }
 {
     g.known();
     for c in 0..plan.len() {
+        let options: &[u64] = &plan[c];
         let known = note.answers[c];
-        match answer_one(alloc, g, vectors, columns, f, &plan[c], known)? {
+        match answer_one(alloc, g, vectors, columns, f, options, known, trusted)? {
             Some(place) => note.answers[c] = Some(place),
-            None => return Ok(Some(refine_options(alloc, f, columns, &plan[c])?)),
+            None => return Ok(Some(remains_of(alloc, g, vectors, columns, f, options)?)),
         }
     }
     Ok(None)

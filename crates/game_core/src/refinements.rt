@@ -1,6 +1,6 @@
 //! The maximal vectors below an entry from which a player can answer.
 
-ghost use Rattle.std.specs.Prelude.{◌≡◌, ◌<◌, ◌&&◌, ◌||◌, ℕ, List, ℤ, true, false, length, vec_len, IfOk, IfSome, OnOk, not, slice_index_or};
+ghost use Rattle.std.specs.Prelude.{◌≡◌, ◌<◌, ◌&&◌, ◌||◌, ℕ, List, ℤ, true, false, length, vec_len, IfOk, IfSome, IfNone, OnOk, not, slice_index_or};
 ghost use Rattle.std.specs.List.{All, AllPairs, filter, list_any};
 ghost use Rattle.counter_vec.specs.Counters.{at_or_below, met, AreCounters};
 ghost use Rattle.game_core.specs.Columns.{column_at, some_covers, each_covers, MissesAll};
@@ -36,6 +36,19 @@ fn add_maximal(kept: &mut Vec<Counters>, piece: Counters, f: &Counters) -> Resul
     if is_under(kept, &piece) {
         return Ok(());
     }
+    add_missed(kept, piece, f)
+}
+
+/// Adds a piece of `f` to a list of maximal ones, none of which is at or above it.
+fn add_missed(kept: &mut Vec<Counters>, piece: Counters, f: &Counters) -> Result<(), AllocError>
+    requires piece { IsPiece f.now piece }
+    requires kept { All (IsPiece f.now) kept.old.items }
+    requires apart { AllPairs IsApart kept.old.items }
+    requires missed { Misses piece kept.old.items }
+    ensures kept { All (IsPiece f.now) kept.new.items }
+    ensures apart { AllPairs IsApart kept.new.items }
+    ensures under { OnOk result ((u : List ℤ) → under kept.new.items u ≡ (under kept.old.items u || at_or_below u piece)) }
+{
     drop_below(kept, &piece);
     kept.push(piece)?;
     Ok(())
@@ -44,7 +57,8 @@ fn add_maximal(kept: &mut Vec<Counters>, piece: Counters, f: &Counters) -> Resul
 /// The place of a vector at or above the meet of `v` and `p`, looked for at the place `likely` first.
 fn find_met(vectors: &[Counters], v: &Counters, p: &Counters, likely: usize) -> Option<usize>
     requires { length v.now ≡ length p.now }
-    ensures { IfSome result (λ _. under vectors.now (met v.now p.now) ≡ true) }
+    ensures some { IfSome result (λ _. under vectors.now (met v.now p.now) ≡ true) }
+    ensures none { IfNone result (Misses (met v.now p.now) vectors.now) }
 {
     if likely < vectors.len() && v.meet_at_or_below(p, &vectors[likely]) {
         return Some(likely);
@@ -82,7 +96,7 @@ fn add_meet(
     }
     let meet = v.meet(alloc, p)?;
     let _ = meet.lanes();
-    add_maximal(kept, meet, f)
+    add_missed(kept, meet, f)
 }
 
 /// Adds what of `f` is at or below a member at some places of a column that has nothing at or above `f`.

@@ -69,7 +69,16 @@ fn look_at_all(
 {
     for place in 0..vectors.len() {
         let note = &mut notes[place];
-        if let Some(pieces) = look(alloc, g, plan, vectors, &vectors[place], note, columns)? {
+        if let Some(pieces) = look(
+            alloc,
+            g,
+            plan,
+            vectors,
+            &vectors[place],
+            note,
+            columns,
+            false,
+        )? {
             return Ok(Some(Found { place, pieces }));
         }
     }
@@ -78,7 +87,8 @@ fn look_at_all(
 
 /// Looks at entries until one has to be replaced. None where the player can answer one step from each.
 ///
-/// The marks say which entries are worth a look. At the end all are looked at once more, with the known answers.
+/// The marks say which entries are worth a look, at which what is known is trusted. At the end all are looked at once
+/// more, and each known answer is tried.
 #[tactic(auto, using(crate::proofs::PendingMarks::marked_falls))]
 fn settle(
     alloc: Global,
@@ -105,7 +115,16 @@ fn settle(
 {
     while let Some(place) = next_entry(pending, notes) {
         let note = &mut notes[place];
-        match look(alloc, g, plan, vectors, &vectors[place], note, columns)? {
+        match look(
+            alloc,
+            g,
+            plan,
+            vectors,
+            &vectors[place],
+            note,
+            columns,
+            true,
+        )? {
             Some(pieces) => return Ok(Some(Found { place, pieces })),
             None => pending[place] = false,
         }

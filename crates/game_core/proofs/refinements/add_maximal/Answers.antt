@@ -1,8 +1,7 @@
 use Rattle.std.proofs.Common.{◌∙◌, List, sym, ap}
 use Rattle.std.specs.Prelude.{ℤ}
 use Rattle.game_core.specs.Front.{under}
-use Rattle.game_core.proofs.Pieces.{pieces_filtered, pieces_pushed}
-use Rattle.game_core.proofs.Unders.{apart_filtered, apart_replaced, misses_from, under_absorbs, under_replaced}
+use Rattle.game_core.proofs.Unders.{misses_from, under_absorbs}
 use Rattle.game_core.proofs.refinements.add_maximal.Goals as goal
 
 pub returns-then-is_under-clause-under : goal.returns-then-is_under-clause-under
@@ -10,23 +9,7 @@ returns-then-is_under-clause-under c = λ u.
     under_absorbs u c.args.piece c.args.kept.now.items
     (ap (λ (vs : List (List ℤ)). under vs c.args.piece) (sym c.deref.ensures.value) ∙ sym c.is_under.ensures ∙ c.if-is_under.true)
 
-pub returns-in_err-push-clause-kept : goal.returns-in_err-push-clause-kept
-returns-in_err-push-clause-kept c = rw (c.in_err-push.ensures.items, c.drop_below.ensures) (pieces_filtered _ _ _ c.requires.kept)
-
-pub returns-in_err-push-clause-apart : goal.returns-in_err-push-clause-apart
-returns-in_err-push-clause-apart c = rw (c.in_err-push.ensures.items, c.drop_below.ensures) (apart_filtered c.args.piece c.args.kept.now.items c.requires.apart)
-
-pub returns-clause-kept : goal.returns-clause-kept
-returns-clause-kept c =
-    rw (c.in_ok-push.ensures.items, c.drop_below.ensures)
-    (pieces_pushed _ _ _ (pieces_filtered _ _ _ c.requires.kept) c.requires.piece)
-
-pub returns-clause-apart : goal.returns-clause-apart
-returns-clause-apart c =
-    rw (c.in_ok-push.ensures.items, c.drop_below.ensures)
-    (apart_replaced c.args.piece c.args.kept.now.items c.requires.apart
-    (misses_from c.args.piece c.args.kept.now.items
-    (ap (λ (vs : List (List ℤ)). under vs c.args.piece) (sym c.deref.ensures.value) ∙ sym c.is_under.ensures ∙ c.if-is_under.false)))
-
-pub returns-clause-under : goal.returns-clause-under
-returns-clause-under c = λ u. rw (c.in_ok-push.ensures.items, c.drop_below.ensures) (under_replaced u c.args.piece c.args.kept.now.items)
+pub add_missed-requires-clause-missed : goal.add_missed-requires-clause-missed
+add_missed-requires-clause-missed c =
+    misses_from c.args.piece c.args.kept.now.items
+    (ap (λ (vs : List (List ℤ)). under vs c.args.piece) (sym c.deref.ensures.value) ∙ sym c.is_under.ensures ∙ c.if-is_under.false)

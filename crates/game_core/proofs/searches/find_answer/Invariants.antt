@@ -1,7 +1,7 @@
-use Rattle.std.proofs.Common.{ℕ, ◌<◌, slice_index_or}
-use Rattle.game_core.specs.Front.{Misses}
-use Rattle.game_core.specs.Columns.{column_at}
+use Rattle.std.proofs.Common.{take}
+use Rattle.game_core.specs.Columns.{AreColumns}
+use Rattle.game_core.specs.Plan.{NoneWorks}
 use Rattle.game_core.proofs.searches.find_answer.Given as goal
 
 abbrev pub invariant-loop-action : goal.invariant-loop-action
-invariant-loop-action l = (k d : ℕ) → k < l.action-index → Misses l.f (column_at l.columns (slice_index_or l.options k d))
+invariant-loop-action l = AreColumns l.g l.vectors l.columns × NoneWorks l.g l.vectors l.f (take l.action-index l.options)
