@@ -6,7 +6,7 @@ use Rattle.std.proofs.lemmas.Nat.{pow-add, mod-pow-add, mod_low, shr-shr}
 use Rattle.std.proofs.lemmas.Option.{same_Some}
 use Rattle.word_core.specs.declared.branches.Branch.{Branch}
 use Rattle.word_core.specs.declared.branches.Branch.TheVariants.{Leaf, Split}
-use Rattle.word_core.specs.Tree.{IsTree, IsNodeAt, label_at, label_of, side, LabelHas, TestsBelow}
+use Rattle.word_core.specs.Tree.{IsTree, IsNodeAt, label_at, label_of, LabelHas, TestsBelow}
 use Rattle.word_core.proofs.TreeLabels.{label_leaf, label_split}
 use Rattle.game_form.specs.Tree.{IsTreeOver}
 

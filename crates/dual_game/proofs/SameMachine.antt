@@ -75,6 +75,7 @@ module _ (a q : AutomatonData) (of : List ℕ) (g h : GameData) (alike : AreAlik
         (is.choices s other l (in_other other lx));
     lines = All-weaker (AreSplit (other_width h)) (AreSplit (other_width g)) (λ ls split. subst (λ w. AreSplit w ls) (others a q of g h alike) split) states is.lines;
     breadth_first = is.breadth_first;
+    met = is.met;
   }
     where
       size : length lifts ≡ length entries

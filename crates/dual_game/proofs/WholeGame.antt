@@ -1,6 +1,6 @@
 -- Each automaton has a game: each letter has an action of its own, and there is one class.
 use Rattle.std.proofs.Common.{◌≡◌, ℕ, zero, suc, ◌+◌, ◌*◌, ◌/◌, ◌%◌, ◌^◌, ◌<◌, ◌≤◌, List, [], ◌∷◌, length, map, get_or, Option, Some, None, refl, sym, ◌∙◌, ap, subst, arith}
-use Rattle.std.specs.Prelude.{ℤ, pos, slice_get, ◌≤ℤ◌}
+use Rattle.std.specs.Prelude.{pos, slice_get}
 use Rattle.std.specs.List.{All, range_with_len}
 use Rattle.std.specs.Option.{ForSome, IfSome}
 use Rattle.std.proofs.lemmas.Int.{ints}
@@ -8,7 +8,6 @@ use Rattle.std.proofs.lemmas.List.Elements.{All-contains}
 use Rattle.std.proofs.lemmas.List.FromFn.{get_or-map-range_with_len, length-map-range_with_len}
 use Rattle.std.proofs.lemmas.Nat.{pow-add, pow_pos, mul-add-lt, shr_high, mod_low}
 use Rattle.std.proofs.lemmas.Option.{same_Some}
-use Rattle.word_core.specs.declared.branches.Branch.{Branch}
 use Rattle.word_core.specs.declared.branches.Branch.TheVariants.{Leaf}
 use Rattle.word_core.specs.declared.names.Kind.{Kind}
 use Rattle.word_core.specs.declared.names.Kind.TheVariants.{First, Second}
@@ -18,10 +17,10 @@ use Rattle.word_core.specs.declared.names.Player.TheVariants.{System, Environmen
 use Rattle.word_core.specs.Automaton.{AutomatonData, IsAutomaton, IsEdge, edges_at}
 use Rattle.word_core.specs.Machine as machine
 use Rattle.word_core.specs.Play.{letter_of}
-use Rattle.word_core.specs.Tree.{label_of, IsNodeAt, LabelHas, TestsBelow}
+use Rattle.word_core.specs.Tree.{IsNodeAt, LabelHas, TestsBelow}
 use Rattle.game_form.specs.declared.actions.Step.{Step}
 use Rattle.game_form.specs.Game as game
-use Rattle.game_form.specs.Game.{GameData, ClassData, IsGame, IsAction, IsClass, lanes, lanes_of, action_at, action_of, row_at, class_at, option_at, of_first, of_second, own_width, other_width}
+use Rattle.game_form.specs.Game.{GameData, IsGame, IsAction, IsClass, lanes, lanes_of, action_at, action_of, row_at, class_at, option_at, of_first, of_second, own_width, other_width}
 use Rattle.game_form.specs.Tree.{IsTreeOver}
 use Rattle.game_form.specs.Vector.{number}
 use Rattle.action_groups.specs.Rows.{edge_number, HasRows}

@@ -1,5 +1,5 @@
 -- A list of vectors has one machine.
-use Rattle.std.proofs.Common.{◌≡◌, ℕ, ◌+◌, ◌<◌, ◌≤◌, ◌^◌, Bool, true, false, nat_lt, List, [], ◌∷◌, ◌++◌, length, map, take, drop, get_or, Option, Some, None, refl, sym, ◌∙◌, ap, subst, arith, append_assoc, append-nil, length-append}
+use Rattle.std.proofs.Common.{◌≡◌, ℕ, ◌+◌, ◌<◌, ◌≤◌, ◌^◌, Bool, true, false, nat_lt, List, [], ◌∷◌, ◌++◌, length, take, drop, get_or, Option, Some, None, refl, sym, ◌∙◌, ap, subst, arith, append_assoc, append-nil, length-append}
 use Rattle.std.specs.Prelude.{ℤ, option_map}
 use Rattle.std.specs.List.{All, AllZip, Contains, flat_map}
 use Rattle.std.specs.Option.{IsSomeAnd}
@@ -18,7 +18,7 @@ use Rattle.strategy_play.specs.Laws.{MachineIsOne}
 use Rattle.strategy_play.specs.Splitting.{decision, AreSplit}
 use Rattle.strategy_play.specs.Strategy.{entry_of_state}
 use Rattle.strategy_play.specs.Walk.{InTurn, nexts_of}
-use Rattle.strategy_play.proofs.OneSplitting.{AreRelated, one_splitting}
+use Rattle.strategy_play.proofs.OneSplitting.{one_splitting}
 use Rattle.strategy_play.proofs.Played.{decides_within}
 use Rattle.strategy_play.proofs.Turns.{turns_rise, turns_end, turns_parts, turns_below, Agree, one_turn}
 use Rattle.strategy_play.proofs.Walked.{states_turn}

@@ -8,7 +8,7 @@ use Rattle.word_core.specs.Cube.{IsCube, holds}
 use Rattle.letter_tree.specs.Splitting.{fixed}
 use Rattle.letter_tree.proofs.CubeBits.{bit_cases}
 use Rattle.letter_tree.proofs.SplitLines.{IsCube-wider, IsCube-fixed}
-use Rattle.strategy_play.specs.Splitting.{IsConstant, DependsOn, IsSplitting}
+use Rattle.strategy_play.specs.Splitting.{DependsOn, IsSplitting}
 use Rattle.strategy_play.specs.Splitting.IsSplitting.{whole, split}
 use Rattle.strategy_play.proofs.Halves.{half_inside, half_holds, want_held, want_within, later_alike, raised_held}
 

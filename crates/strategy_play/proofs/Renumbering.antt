@@ -1,5 +1,5 @@
 -- Renumbered lines are the splitting of what they decide.
-use Rattle.std.proofs.Common.{◌≡◌, ℕ, ◌+◌, ◌<◌, ◌≤◌, ◌^◌, Bool, true, false, cond, List, [], ◌∷◌, ◌++◌, length, get_or, Option, Some, None, refl, sym, ◌∙◌, ap, subst}
+use Rattle.std.proofs.Common.{◌≡◌, ℕ, ◌+◌, ◌<◌, ◌^◌, Bool, true, false, cond, List, [], ◌∷◌, ◌++◌, length, get_or, Option, Some, None, refl, sym, ◌∙◌, ap, subst}
 use Rattle.std.specs.Prelude.{option_map}
 use Rattle.std.specs.List.{AllZip}
 use Rattle.std.specs.Option.{MatchOption}
@@ -9,7 +9,7 @@ use Rattle.word_core.specs.declared.machines.Line.{Line}
 use Rattle.word_core.specs.Cube.{holds}
 use Rattle.word_core.specs.Machine.{choice}
 use Rattle.letter_tree.specs.Splitting.{fixed}
-use Rattle.strategy_play.specs.Splitting.{decision, DependsOn, IsSplitting}
+use Rattle.strategy_play.specs.Splitting.{decision, IsSplitting}
 use Rattle.strategy_play.specs.Splitting.IsSplitting.{whole, split}
 use Rattle.strategy_play.specs.Walk.{IsRenumbered}
 
