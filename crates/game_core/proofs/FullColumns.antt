@@ -4,7 +4,6 @@ use Rattle.std.specs.Prelude.{ℤ, slice_index_or, slice_set}
 use Rattle.std.specs.List.{All, list_any, list_all}
 use Rattle.std.specs.declared.alloc.Global.{Global}
 use Rattle.std.proofs.lemmas.Bool.{cases_eq}
-use Rattle.std.proofs.lemmas.List.{get_or_default}
 use Rattle.std.proofs.lemmas.List.Elements.{All-more, All-take}
 use Rattle.std.proofs.lemmas.List.Folds.{Any-from_list_any, list_any_at, list_any_none, list_all_at}
 use Rattle.counter_vec.specs.Counters.{at_or_below}

@@ -90,7 +90,8 @@ fn push_entry(
     Ok(())
 }
 
-/// Puts one piece of `f`, where no entry is at or above it, that at `likely` least of all. None is below it, since none is below `f`.
+/// Puts one piece of `f`, where no entry is at or above it; that at `likely` is asked first. None is below it, since none
+/// is below `f`.
 #[tactic(auto, using(crate::proofs::Replacements::entries_pushed, crate::proofs::Replacements::misses_pushed, crate::proofs::Replacements::under_pushed, crate::proofs::ColumnReads::columns_pushed))]
 fn put_piece(
     alloc: Global,

@@ -100,7 +100,7 @@ pub fn is_under(vectors: &[Counters], v: &Counters) -> bool
     find_cover(vectors, v).is_some()
 }
 
-/// Whether an entry is at or above `v`. The one at the place `likely`, which was the last that was found, is tried first.
+/// Whether an entry is at or above `v`. That at the place `likely`, the last that was found, is tried first.
 pub fn is_likely_under(vectors: &[Counters], v: &Counters, likely: &mut usize) -> bool
     ensures { result ≡ under vectors.now v.now }
 {

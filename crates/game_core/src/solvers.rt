@@ -68,17 +68,9 @@ fn look_at_all(
     ensures closed { IfOk result (λ o. IfNone o (All (λ f. answers g.now vectors.now f ≡ true) vectors.now)) }
 {
     for place in 0..vectors.len() {
+        let f = &vectors[place];
         let note = &mut notes[place];
-        if let Some(pieces) = look(
-            alloc,
-            g,
-            plan,
-            vectors,
-            &vectors[place],
-            note,
-            columns,
-            false,
-        )? {
+        if let Some(pieces) = look(alloc, g, plan, vectors, f, note, columns, false)? {
             return Ok(Some(Found { place, pieces }));
         }
     }
@@ -114,17 +106,9 @@ fn settle(
     ensures closed { IfOk result (λ o. IfNone o (All (λ f. answers g.now vectors.now f ≡ true) vectors.now)) }
 {
     while let Some(place) = next_entry(pending, notes) {
+        let f = &vectors[place];
         let note = &mut notes[place];
-        match look(
-            alloc,
-            g,
-            plan,
-            vectors,
-            &vectors[place],
-            note,
-            columns,
-            true,
-        )? {
+        match look(alloc, g, plan, vectors, f, note, columns, true)? {
             Some(pieces) => return Ok(Some(Found { place, pieces })),
             None => pending[place] = false,
         }

@@ -4,8 +4,8 @@ ghost use Rattle.std.specs.Prelude.{◌≡◌, ◌≢◌, ◌<◌, ◌≤◌, �
 ghost use Rattle.std.specs.Int.{int_min};
 ghost use Rattle.lane_ops.specs.Lanes.{lane, IsAtOrBelow};
 
-/// How many lanes are compared at once.
-const BLOCK: usize = 16;
+/// How many lanes are compared at once. The last block of a vector begins so many lanes before its end.
+const BLOCK: usize = 8;
 
 /// Whether every lane of `a` is at most that of `b`.
 pub fn le(a: &[i16], b: &[i16]) -> bool
@@ -18,7 +18,18 @@ pub fn le(a: &[i16], b: &[i16]) -> bool
             return false;
         }
     }
-    le_between(a, b, blocks * BLOCK, a.len())
+    le_at_end(a, b)
+}
+
+/// Whether every lane of the last block of `a` is at most that of `b`; of a vector that is shorter than a block, every lane.
+fn le_at_end(a: &[i16], b: &[i16]) -> bool
+    requires { length a.now ≡ length b.now }
+    ensures { IsTrue result ↔ ((p : ℕ) → length a.now ≤ p + 8 → p < length a.now → lane a.now p ≤ℤ lane b.now p) }
+{
+    if a.len() < BLOCK {
+        return le_between(a, b, 0, a.len());
+    }
+    le_between(a, b, a.len() - BLOCK, a.len() - BLOCK + BLOCK)
 }
 
 fn le_between(a: &[i16], b: &[i16], from: usize, to: usize) -> bool
@@ -46,7 +57,19 @@ pub fn meet_le(a: &[i16], b: &[i16], c: &[i16]) -> bool
             return false;
         }
     }
-    meet_le_between(a, b, c, blocks * BLOCK, a.len())
+    meet_le_at_end(a, b, c)
+}
+
+/// The same for the lanes of the last block; of vectors that are shorter than a block, for every lane.
+fn meet_le_at_end(a: &[i16], b: &[i16], c: &[i16]) -> bool
+    requires second { length a.now ≡ length b.now }
+    requires third { length a.now ≡ length c.now }
+    ensures { IsTrue result ↔ ((p : ℕ) → length a.now ≤ p + 8 → p < length a.now → int_min (lane a.now p) (lane b.now p) ≤ℤ lane c.now p) }
+{
+    if a.len() < BLOCK {
+        return meet_le_between(a, b, c, 0, a.len());
+    }
+    meet_le_between(a, b, c, a.len() - BLOCK, a.len() - BLOCK + BLOCK)
 }
 
 fn meet_le_between(a: &[i16], b: &[i16], c: &[i16], from: usize, to: usize) -> bool

@@ -5,4 +5,4 @@ use Rattle.lane_ops.specs.Lanes.{lane}
 use Rattle.lane_ops.proofs.compares.meet_le.Given as goal
 
 abbrev pub invariant-loop-block : goal.invariant-loop-block
-invariant-loop-block l = (q : ℕ) → q < l.block * 16 → int_min (lane l.a q) (lane l.b q) ≤ℤ lane l.c q
+invariant-loop-block l = (q : ℕ) → q < l.block * 8 → int_min (lane l.a q) (lane l.b q) ≤ℤ lane l.c q
