@@ -26,3 +26,7 @@ mod slow_vectors;
 mod step_trials;
 #[cfg(test)]
 mod tree_trials;
+#[cfg(test)]
+mod worked_games;
+#[cfg(test)]
+mod world_trials;

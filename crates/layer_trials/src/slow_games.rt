@@ -32,9 +32,10 @@ pub struct Sizes {
     pub k: u64,
 }
 
-/// A cube over so many signals.
+/// A cube over so many signals, half of them with few signals.
 fn drawn_cube(draws: &mut Draws, signals: u32) -> Cube {
-    let care = draws.any() & draws.any() & (1u64.wrapping_shl(signals)).wrapping_sub(1);
+    let some = if draws.coin() { draws.any() } else { u64::MAX };
+    let care = draws.any() & some & 1u64.wrapping_shl(signals).wrapping_sub(1);
     Cube {
         care,
         want: draws.any() & care,
