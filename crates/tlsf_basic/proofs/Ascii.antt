@@ -1,7 +1,9 @@
--- The bytes of words and marks are below 128, so a declared name is its bytes.
+-- The bytes of words and marks are above 32 and below 128, so a declared name is its bytes, and has no line feed.
 use Rattle.std.proofs.Common.{◌≡◌, ℕ, zero, suc, ◌+◌, ◌-◌, ◌<◌, min, Bool, true, false, not, cond, List, [], ◌∷◌, ◌++◌, length, take, drop, map, nat_lt, nat_eq, nat_le, ◌==◌, Option, Some, None, Result, Ok, Err, sym, refl, ap, ◌∙◌, subst, arith, append_assoc, length-append}
 use Rattle.std.specs.Prelude.{◌||◌, ◌&&◌, unwrap_or, position, filter, codes, slice_range, encode_utf8_all}
-use Rattle.std.specs.List.{list_any, starts_with, position_or_len}
+use Rattle.std.specs.Prelude.{◌≢◌}
+use Rattle.std.specs.List.{All, list_any, starts_with, position_or_len}
+use Rattle.std.proofs.lemmas.List.Elements.{All-nil, All-cons}
 use Rattle.std.specs.Cmp.Lexicographic.{pointwise}
 use Rattle.std.proofs.lemmas.Bool.Decides.{nat_tests}
 use Rattle.std.proofs.lemmas.Str.{encode_ascii}
@@ -23,9 +25,13 @@ use Rattle.tlsf_basic.specs.Marks.{is_declared}
 use Rattle.tlsf_basic.specs.Words.{symbol_of, in_zone, lexeme_of, zone_behind, lexemes_of}
 use Rattle.tlsf_basic.specs.Signals.{is_input, is_output, name_of, inputs_of, outputs_of}
 
+-- a byte that is seen
+abbrev pub IsShown : ℕ → Type 0
+IsShown b = (32 < b) × (b < 128)
+
 abbrev pub IsAscii : List ℕ → Type 0
 IsAscii [] = Unit {0}
-IsAscii (b ∷ bs) = (b < 128) × IsAscii bs
+IsAscii (b ∷ bs) = IsShown b × IsAscii bs
 
 or_true : (a b : Bool) (P : Type 0) → (a ≡ true → P) → (b ≡ true → P) → (a || b) ≡ true → P
 or_true true b P one two e = one refl
@@ -39,31 +45,37 @@ and_first : (a b : Bool) → (a && b) ≡ true → a ≡ true
 and_first true b e = refl
 and_first false b e = cc
 
-at_most : (b k : ℕ) → k < 128 → nat_le b k ≡ true → b < 128
-at_most b k small e = grind (arith, nat_tests)
+between : (b l k : ℕ) → 32 < l → k < 128 → (nat_le l b && nat_le b k) ≡ true → IsShown b
+between b l k large small e =
+    let low : nat_le l b ≡ true = and_first (nat_le l b) (nat_le b k) e in
+    let high : nat_le b k ≡ true = and_last (nat_le l b) (nat_le b k) e in
+    (grind (arith, nat_tests), grind (arith, nat_tests))
 
-equal_to : (b k : ℕ) → k < 128 → (b == k) ≡ true → b < 128
-equal_to b k small e = grind (arith, nat_tests)
+equal_to : (b k : ℕ) → 32 < k → k < 128 → (b == k) ≡ true → IsShown b
+equal_to b k large small e = (grind (arith, nat_tests), grind (arith, nat_tests))
 
-digit_ascii : (b : ℕ) → is_digit b ≡ true → b < 128
-digit_ascii b e = at_most b 57 (omega arith) (and_last (nat_le 48 b) (nat_le b 57) e)
+digit_ascii : (b : ℕ) → is_digit b ≡ true → IsShown b
+digit_ascii b e = between b 48 57 (omega arith) (omega arith) e
 
-starts_ascii : (b : ℕ) → starts_word b ≡ true → b < 128
+starts_ascii : (b : ℕ) → starts_word b ≡ true → IsShown b
 starts_ascii b e =
-    or_true ((nat_le 97 b && nat_le b 122) || (nat_le 65 b && nat_le b 90) || b == 95) (b == 64) (b < 128)
-    (or_true ((nat_le 97 b && nat_le b 122) || (nat_le 65 b && nat_le b 90)) (b == 95) (b < 128)
-    (or_true (nat_le 97 b && nat_le b 122) (nat_le 65 b && nat_le b 90) (b < 128)
-    (λ h. at_most b 122 (omega arith) (and_last (nat_le 97 b) (nat_le b 122) h)) (λ h. at_most b 90 (omega arith) (and_last (nat_le 65 b) (nat_le b 90) h)))
-    (equal_to b 95 (omega arith))) (equal_to b 64 (omega arith)) e
+    or_true ((nat_le 97 b && nat_le b 122) || (nat_le 65 b && nat_le b 90) || b == 95) (b == 64) (IsShown b)
+    (or_true ((nat_le 97 b && nat_le b 122) || (nat_le 65 b && nat_le b 90)) (b == 95) (IsShown b)
+    (or_true (nat_le 97 b && nat_le b 122) (nat_le 65 b && nat_le b 90) (IsShown b)
+    (between b 97 122 (omega arith) (omega arith)) (between b 65 90 (omega arith) (omega arith)))
+    (equal_to b 95 (omega arith) (omega arith))) (equal_to b 64 (omega arith) (omega arith)) e
 
-word_ascii : (b : ℕ) → is_in_word b ≡ true → b < 128
+word_ascii : (b : ℕ) → is_in_word b ≡ true → IsShown b
 word_ascii b e =
-    or_true (starts_word b || is_digit b) (b == 39) (b < 128)
-    (or_true (starts_word b) (is_digit b) (b < 128) (starts_ascii b) (digit_ascii b)) (equal_to b 39 (omega arith)) e
+    or_true (starts_word b || is_digit b) (b == 39) (IsShown b)
+    (or_true (starts_word b) (is_digit b) (IsShown b) (starts_ascii b) (digit_ascii b)) (equal_to b 39 (omega arith) (omega arith)) e
 
-any_ascii : (ms : List ℕ) (b : ℕ) → IsAscii ms → list_any (λ m. m == b) ms ≡ true → b < 128
+any_ascii : (ms : List ℕ) (b : ℕ) → IsAscii ms → list_any (λ m. m == b) ms ≡ true → IsShown b
 any_ascii [] b all e = cc
-any_ascii (m ∷ ms) b all e = or_true (m == b) (list_any (λ m. m == b) ms) (b < 128) (λ h. let small : m < 128 = all.0 in grind (arith, nat_tests)) (any_ascii ms b all.1) e
+any_ascii (m ∷ ms) b all e = or_true (m == b) (list_any (λ m. m == b) ms) (IsShown b) (λ h. same all.0 h) (any_ascii ms b all.1) e
+  where
+    same : IsShown m → (m == b) ≡ true → IsShown b
+    same shown h = let low : 32 < m = shown.0 in let high : m < 128 = shown.1 in (grind (arith, nat_tests), grind (arith, nat_tests))
 
 -- the front that passes a test
 
@@ -73,7 +85,7 @@ cut_len a b = go (nat_lt a b) refl where
   go true e = grind (arith, nat_tests)
   go false e = grind (arith, nat_tests)
 
-front_ascii : (test : ℕ → Bool) → ((b : ℕ) → test b ≡ true → b < 128) → (xs : List ℕ) → IsAscii (take (min (position_or_len (λ b. not (test b)) xs) (length xs)) xs)
+front_ascii : (test : ℕ → Bool) → ((b : ℕ) → test b ≡ true → IsShown b) → (xs : List ℕ) → IsAscii (take (min (position_or_len (λ b. not (test b)) xs) (length xs)) xs)
 front_ascii test small [] = subst (λ n. IsAscii (take n [])) (let e : 0 ≡ min 0 0 = omega arith in e) tt
 front_ascii test small (x ∷ xs) = go (test x) refl (front_ascii test small xs) where
   go : (c : Bool) → test x ≡ c → IsAscii (take (min (position_or_len (λ b. not (test b)) xs) (length xs)) xs) → IsAscii (take (min (cond (not (not c)) (1 + position_or_len (λ b. not (test b)) xs) 0) (length (x ∷ xs))) (x ∷ xs))
@@ -92,9 +104,10 @@ pointwise_ascii [] [] e all = tt
 pointwise_ascii [] (y ∷ ys) e all = cc
 pointwise_ascii (n ∷ ns) [] e all = cc
 pointwise_ascii (n ∷ ns) (y ∷ ys) e all =
-    let small : n < 128 = all.0 in
+    let low : 32 < n = all.0.0 in
+    let small : n < 128 = all.0.1 in
     let same : nat_eq n y ≡ true = and_first (nat_eq n y) (pointwise nat_eq ns ys) e in
-    (grind (arith, nat_tests), pointwise_ascii ns ys (and_last (nat_eq n y) (pointwise nat_eq ns ys) e) all.1)
+    ((grind (arith, nat_tests), grind (arith, nat_tests)), pointwise_ascii ns ys (and_last (nat_eq n y) (pointwise nat_eq ns ys) e) all.1)
 
 -- steps
 
@@ -159,12 +172,12 @@ module _ (k : Kin) (n : ℕ) (plain : Plain k) where
   mark_ascii : (b : ℕ) (s : List ℕ) → mark_step (b ∷ s) ≡ Take k n → IsAscii (take n (b ∷ s))
   mark_ascii b s e =
       by_cond (is_mark b) (Take kin.Mark 1) _ (Take k n) (IsAscii (take n (b ∷ s)))
-      (λ c h. took 1 kin.Mark (b ∷ s) h (any_ascii (codes "{}();:,!") b (omega arith, (omega arith, (omega arith, (omega arith, (omega arith, (omega arith, (omega arith, (omega arith, tt)))))))) c, tt))
+      (λ c h. took 1 kin.Mark (b ∷ s) h (any_ascii (codes "{}();:,!") b ((omega arith, omega arith), ((omega arith, omega arith), ((omega arith, omega arith), ((omega arith, omega arith), ((omega arith, omega arith), ((omega arith, omega arith), ((omega arith, omega arith), ((omega arith, omega arith), tt)))))))) c, tt))
       (λ c. by_cond (is_full_mark b) (Take kin.Full 1) _ (Take k n) (IsAscii (take n (b ∷ s))) (λ d h. absurd (never_full 1 h))
-      (λ d. by_cond (starts_with nat_eq (b ∷ s) (codes "&&")) (Take kin.Mark 2) _ (Take k n) (IsAscii (take n (b ∷ s))) (λ x h. took 2 kin.Mark (b ∷ s) h (prefix_ascii (b ∷ s) (codes "&&") 2 refl (omega arith, (omega arith, tt)) x))
-      (λ x. by_cond (starts_with nat_eq (b ∷ s) (codes "||")) (Take kin.Mark 2) _ (Take k n) (IsAscii (take n (b ∷ s))) (λ y h. took 2 kin.Mark (b ∷ s) h (prefix_ascii (b ∷ s) (codes "||") 2 refl (omega arith, (omega arith, tt)) y))
-      (λ y. by_cond (starts_with nat_eq (b ∷ s) (codes "->")) (Take kin.Mark 2) _ (Take k n) (IsAscii (take n (b ∷ s))) (λ z h. took 2 kin.Mark (b ∷ s) h (prefix_ascii (b ∷ s) (codes "->") 2 refl (omega arith, (omega arith, tt)) z))
-      (λ z. by_cond (starts_with nat_eq (b ∷ s) (codes "<->")) (Take kin.Mark 3) _ (Take k n) (IsAscii (take n (b ∷ s))) (λ q h. took 3 kin.Mark (b ∷ s) h (prefix_ascii (b ∷ s) (codes "<->") 3 refl (omega arith, (omega arith, (omega arith, tt))) q))
+      (λ d. by_cond (starts_with nat_eq (b ∷ s) (codes "&&")) (Take kin.Mark 2) _ (Take k n) (IsAscii (take n (b ∷ s))) (λ x h. took 2 kin.Mark (b ∷ s) h (prefix_ascii (b ∷ s) (codes "&&") 2 refl ((omega arith, omega arith), ((omega arith, omega arith), tt)) x))
+      (λ x. by_cond (starts_with nat_eq (b ∷ s) (codes "||")) (Take kin.Mark 2) _ (Take k n) (IsAscii (take n (b ∷ s))) (λ y h. took 2 kin.Mark (b ∷ s) h (prefix_ascii (b ∷ s) (codes "||") 2 refl ((omega arith, omega arith), ((omega arith, omega arith), tt)) y))
+      (λ y. by_cond (starts_with nat_eq (b ∷ s) (codes "->")) (Take kin.Mark 2) _ (Take k n) (IsAscii (take n (b ∷ s))) (λ z h. took 2 kin.Mark (b ∷ s) h (prefix_ascii (b ∷ s) (codes "->") 2 refl ((omega arith, omega arith), ((omega arith, omega arith), tt)) z))
+      (λ z. by_cond (starts_with nat_eq (b ∷ s) (codes "<->")) (Take kin.Mark 3) _ (Take k n) (IsAscii (take n (b ∷ s))) (λ q h. took 3 kin.Mark (b ∷ s) h (prefix_ascii (b ∷ s) (codes "<->") 3 refl ((omega arith, omega arith), ((omega arith, omega arith), ((omega arith, omega arith), tt))) q))
       (λ q h. absurd (never_bad BadByte 0 h))))))) e
 
   step_ascii : (b : ℕ) (s : List ℕ) → step (b ∷ s) ≡ Take k n → IsAscii (take n (b ∷ s))
@@ -221,7 +234,7 @@ module _ (text : List ℕ) where
 
 encode_same : (bs : List ℕ) → IsAscii bs → encode_utf8_all bs ≡ bs
 encode_same [] all = refl
-encode_same (b ∷ bs) all = ap (λ z. z ++ encode_utf8_all bs) (encode_ascii b all.0) ∙ ap (λ z. b ∷ z) (encode_same bs all.1)
+encode_same (b ∷ bs) all = ap (λ z. z ++ encode_utf8_all bs) (encode_ascii b all.0.1) ∙ ap (λ z. b ∷ z) (encode_same bs all.1)
 
 plain_kin : (z : Zone) (k : Kin) (bytes : List ℕ) → is_declared (in_zone z (symbol_of k bytes)) ≡ true → Plain k
 plain_kin z kin.Text bytes e = cc
@@ -263,3 +276,31 @@ inputs_plain text z ts e = names_same is_input input_declared text z ts (tokens_
 
 pub outputs_plain : (text : List ℕ) (z : Zone) (ts : List Token) → tokens_of text ≡ Ok ts → map encode_utf8_all (map (name_of text) (outputs_of (lexemes_of text z ts))) ≡ map (name_of text) (outputs_of (lexemes_of text z ts))
 outputs_plain text z ts e = names_same is_output output_declared text z ts (tokens_ascii text text [] 0 0 refl (omega arith) ts e)
+
+-- declared names have no line feed
+
+shown_whole : (bs : List ℕ) → IsAscii bs → All (λ b. b ≢ 10) bs
+shown_whole [] all = All-nil (λ b. b ≢ 10)
+shown_whole (b ∷ bs) all = All-cons (λ b. b ≢ 10) b bs (λ e. let low : 32 < b = all.0.0 in absurd (omega (arith, low, e))) (shown_whole bs all.1)
+
+names_whole : (test : Symbol → Bool) → ((y : Symbol) → test y ≡ true → is_declared y ≡ true) → (text : List ℕ) (z : Zone) (ts : List Token) → Each text ts → All (All (λ b. b ≢ 10)) (map (name_of text) (filter (λ l. test l.symbol) (lexemes_of text z ts)))
+unfolding lexemes_of
+names_whole test declared text z [] all = All-nil (All (λ b. b ≢ 10))
+names_whole test declared text z (t ∷ ts) all =
+    go (test l.symbol) refl (names_whole test declared text (zone_behind text z t) ts all.1) where
+      l : Lexeme
+      l = lexeme_of text (zone_behind text z t) t
+
+      go : (b : Bool) → test (lexeme_of text (zone_behind text z t) t).symbol ≡ b
+          → All (All (λ b. b ≢ 10)) (map (name_of text) (filter (λ x. test x.symbol) (lexemes_of text (zone_behind text z t) ts)))
+          → All (All (λ b. b ≢ 10)) (map (name_of text) (cond b (lexeme_of text (zone_behind text z t) t ∷ filter (λ x. test x.symbol) (lexemes_of text (zone_behind text z t) ts)) (filter (λ x. test x.symbol) (lexemes_of text (zone_behind text z t) ts))))
+      go false e rest = rest
+      go true e rest =
+          All-cons (All (λ b. b ≢ 10)) (slice_range text t.from t.to) (map (name_of text) (filter (λ x. test x.symbol) (lexemes_of text (zone_behind text z t) ts)))
+          (shown_whole (slice_range text t.from t.to) (all.0 (plain_kin (zone_behind text z t) t.kin (slice_range text t.from t.to) (declared _ e)))) rest
+
+pub inputs_in_line : (text : List ℕ) (z : Zone) (ts : List Token) → tokens_of text ≡ Ok ts → All (All (λ b. b ≢ 10)) (map (name_of text) (inputs_of (lexemes_of text z ts)))
+inputs_in_line text z ts e = names_whole is_input input_declared text z ts (tokens_ascii text text [] 0 0 refl (omega arith) ts e)
+
+pub outputs_in_line : (text : List ℕ) (z : Zone) (ts : List Token) → tokens_of text ≡ Ok ts → All (All (λ b. b ≢ 10)) (map (name_of text) (outputs_of (lexemes_of text z ts)))
+outputs_in_line text z ts e = names_whole is_output output_declared text z ts (tokens_ascii text text [] 0 0 refl (omega arith) ts e)
