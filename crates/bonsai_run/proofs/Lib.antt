@@ -1,9 +1,13 @@
 mod Answering
 mod Appends
 mod Causing
+mod Completing
 mod Fetches
 mod Generated
 mod Names
+mod OneAnswers
 mod OneVerdict
+mod SameGames
+mod SameSpecs
 mod Satisfied
 mod Trying

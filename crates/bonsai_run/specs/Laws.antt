@@ -1,12 +1,16 @@
--- What holds of every verdict.
-use Rattle.std.specs.Prelude.{◌≡◌}
+-- What holds of every verdict and of every answer.
+use Rattle.std.specs.Prelude.{◌≡◌, ℕ, Bool, List, Some}
+use Rattle.shelf_io.specs.Texts.{Texts}
+use Rattle.word_core.specs.declared.names.Player.{Player}
 use Rattle.tlsf_basic.specs.declared.specifications.Spec.{Spec}
 use Rattle.dual_game.specs.declared.bounds.Bounds.{Bounds}
 use Rattle.dual_game.specs.declared.games.Pair.{Pair}
 use Rattle.dual_game.specs.Automata.{IsPairOf}
 use Rattle.bonsai_run.specs.declared.verdicts.Verdict.{Verdict}
 use Rattle.bonsai_run.specs.declared.verdicts.Verdict.TheVariants.{Won, Unknown}
-use Rattle.bonsai_run.specs.Answers.{IsVerdict}
+use Rattle.bonsai_words.specs.Ordered.{Asked}
+use Rattle.bonsai_words.specs.Ordered.Asked.{downset, check, eval}
+use Rattle.bonsai_run.specs.Answers.{IsAnswer, IsVerdict}
 
 -- two verdicts with one bound and one player
 abbrev pub AreAlike : Verdict → Verdict → Type 0
@@ -18,3 +22,14 @@ AreAlike _ _ = ⊥
 abbrev pub VerdictIsOne : Type 0
 VerdictIsOne =
     (s : Spec) (pair again : Pair) (b : Bounds) (v w : Verdict) → IsPairOf s pair → IsPairOf s again → IsVerdict pair s.names b v → IsVerdict again s.names b w → AreAlike v w
+
+-- an order has one status and one text, where the shelf tells these texts
+abbrev pub HasOneAnswer : Texts → Asked → Type 0
+HasOneAnswer told order =
+    (status other : ℕ) (text again : List ℕ) → IsAnswer (Some told) order status text → IsAnswer (Some told) order other again → (status ≡ other) × (text ≡ again)
+
+-- each order that prints no machine has one answer
+pub record AnswerIsOne (told : Texts) : Type 0 where
+  pub held : (name : List ℕ) (player : Player) (bound : ℕ) (as_written : Bool) → HasOneAnswer told (downset name player bound as_written)
+  pub checked : (name machine : List ℕ) (bound : ℕ) (as_written : Bool) → HasOneAnswer told (check name machine bound as_written)
+  pub evaluated : (name lasso : List ℕ) (as_written : Bool) → HasOneAnswer told (eval name lasso as_written)

@@ -1,6 +1,6 @@
 mod Alike
 pub mod Avoiding
-mod Counted
+pub mod Counted
 mod Decided
 mod Grouped
 mod InOrder
@@ -8,7 +8,7 @@ mod Lifting
 mod Meeting
 pub mod OneAutomaton
 mod OneForm
-mod OneList
+pub mod OneList
 pub mod OneWinner
 mod Reached
 mod SameMachine
