@@ -1,10 +1,10 @@
 -- What an answer is, from its status and its text.
-use Rattle.std.proofs.Common.{◌≡◌, ℕ, ℤ, Bool, true, false, Option, List, ◌++◌, codes, refl, subst, sym, ap, ◌∙◌}
+use Rattle.std.proofs.Common.{◌≡◌, ℕ, ◌≤◌, ℤ, Bool, true, false, Option, List, ◌++◌, codes, length, refl, subst, sym, ap, ◌∙◌}
 use Rattle.std.specs.Prelude.{◌↔◌, IsTrue}
 use Rattle.word_core.specs.declared.names.Player.{Player}
 use Rattle.word_core.specs.Automaton.{AutomatonData}
 use Rattle.word_core.specs.Lasso.{LassoData}
-use Rattle.word_core.specs.Machine.{MachineData}
+use Rattle.word_core.specs.Machine.{MachineData, IsMachine}
 use Rattle.word_core.specs.Run.{Keeps}
 use Rattle.shelf_io.specs.Texts.{Texts}
 use Rattle.spec_gen.specs.Arbiter.{arbiter_text}
@@ -13,7 +13,9 @@ use Rattle.tlsf_basic.specs.declared.specifications.Spec.{Spec}
 use Rattle.tlsf_basic.specs.Specification.{IsSpec, signal_count}
 use Rattle.machine_text.specs.Lassos.{IsLasso, lasso_text}
 use Rattle.machine_text.specs.Machines.{Spells}
-use Rattle.game_form.specs.Game.{GameData, lanes}
+use Rattle.antichain_list.specs.Antichain.{IsAntichain}
+use Rattle.counter_vec.specs.Counters.{at_or_below, lexicographic}
+use Rattle.game_form.specs.Game.{GameData, IsGame, lanes}
 use Rattle.game_form.specs.Held.{HasHeld}
 use Rattle.dual_game.specs.declared.games.Pair.{Pair}
 use Rattle.dual_game.specs.Games.{IsGameOf}
@@ -42,9 +44,10 @@ module _ (texts : Option Texts) where
       answer_as _ s _ t _ h k (decided name bounds workers as_written spec pair v of are is (satisfied spec pair spec.names (bounds_of bounds) v are is) (alone spec pair spec.names (bounds_of bounds) v are is))
 
   pub is_downset : (name : List ℕ) (player : Player) (bound : ℕ) (as_written : Bool) (spec : Spec) (a : AutomatonData) (g : GameData) (vectors : List (List ℤ)) (s : ℕ) (t : List ℕ)
-      → IsSpecOf texts name as_written spec → IsAutomatonOf spec player a → IsGameOf a spec.names player bound g → HasHeld g vectors → s ≡ 0 → t ≡ downset_text player bound (lanes g) vectors
+      → IsSpecOf texts name as_written spec → IsAutomatonOf spec player a → IsGame g → IsGameOf a spec.names player bound g → HasHeld g vectors → IsAntichain at_or_below lexicographic vectors
+      → s ≡ 0 → t ≡ downset_text player bound (lanes g) vectors
       → IsAnswer texts (downset name player bound as_written) s t
-  is_downset name player bound as_written spec a g vectors s t of accepts is all h k = answer_as _ s _ t _ h k (held name player bound as_written spec a g vectors of accepts is all)
+  is_downset name player bound as_written spec a g vectors s t of accepts game is all up h k = answer_as _ s _ t _ h k (held name player bound as_written spec a g vectors of accepts game is all up)
 
   pub is_valid : (name machine : List ℕ) (bound : ℕ) (as_written : Bool) (spec : Spec) (m : MachineData) (a : AutomatonData) (s : ℕ) (t : List ℕ)
       → IsSpecOf texts name as_written spec → IsMachineIn texts machine spec m → IsAutomatonOf spec m.player a → Keeps a m bound → s ≡ 0 → t ≡ codes "VALID" ++ codes "\n"
@@ -75,15 +78,15 @@ module _ (texts : Option Texts) where
 
   -- of a machine whose bound was kept or not
   pub is_checked : (name machine : List ℕ) (bound : ℕ) (as_written : Bool) (spec : Spec) (text : List ℕ) (m : MachineData) (a : AutomatonData) (kept : Bool) (answer : Answer)
-      → IsSpecOf texts name as_written spec → IsUnder texts machine text → Spells spec.names text m → IsAutomatonOf spec m.player a → IsTrue kept ↔ Keeps a m bound
+      → IsSpecOf texts name as_written spec → IsUnder texts machine text → length text ≤ 1048576 → IsMachine m → Spells spec.names text m → IsAutomatonOf spec m.player a → IsTrue kept ↔ Keeps a m bound
       → (kept ≡ true → IsWord 0 (codes "VALID") answer) → (kept ≡ false → IsWord 40 (codes "OVER") answer)
       → IsAnswer texts (check name machine bound as_written) answer.status answer.text.items
-  is_checked name machine bound as_written spec text m a true answer of under spells accepts keeps yes_word no_word =
+  is_checked name machine bound as_written spec text m a true answer of under short is spells accepts keeps yes_word no_word =
       let w = yes_word refl in
-      is_valid name machine bound as_written spec m a answer.status answer.text.items of (record { text = text; under = under; spells = spells }) accepts (keeps.0 refl) w.0 w.1
-  is_checked name machine bound as_written spec text m a false answer of under spells accepts keeps yes_word no_word =
+      is_valid name machine bound as_written spec m a answer.status answer.text.items of (record { text = text; under = under; short = short; is = is; spells = spells }) accepts (keeps.0 refl) w.0 w.1
+  is_checked name machine bound as_written spec text m a false answer of under short is spells accepts keeps yes_word no_word =
       let w = no_word refl in
-      is_over name machine bound as_written spec m a answer.status answer.text.items of (record { text = text; under = under; spells = spells }) accepts (λ k. false≢true (keeps.1 k)) w.0 w.1
+      is_over name machine bound as_written spec m a answer.status answer.text.items of (record { text = text; under = under; short = short; is = is; spells = spells }) accepts (λ k. false≢true (keeps.1 k)) w.0 w.1
 
   -- of a formula that held or not
   pub is_evaluated : (name lasso : List ℕ) (as_written : Bool) (spec : Spec) (w : LassoData) (held : Bool) (answer : Answer)
@@ -98,6 +101,11 @@ module _ (texts : Option Texts) where
       is_fails name lasso as_written spec w answer.status answer.text.items of under is v.0 v.1
 
   pub is_lasso : (lasso : List ℕ) (spec : Spec) (w : LassoData) (text : List ℕ) (signals : ℕ) → signals ≡ signal_count spec.names → IsLasso signals w × (text ≡ lasso_text signals w)
-      → IsUnder texts lasso text → IsLassoOf texts lasso spec w
-  is_lasso lasso spec w text signals same is under =
-      (subst (λ n. IsLasso n w) same is.0, subst (λ t. IsUnder texts lasso t) (is.1 ∙ ap (λ n. lasso_text n w) same) under)
+      → IsUnder texts lasso text → length text ≤ 1048576 → IsLassoOf texts lasso spec w
+  is_lasso lasso spec w text signals same is under short = record {
+    text = text;
+    under = under;
+    short = short;
+    is = subst (λ n. IsLasso n w) same is.0;
+    spells = is.1 ∙ ap (λ n. lasso_text n w) same;
+  }

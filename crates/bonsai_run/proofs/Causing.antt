@@ -1,5 +1,5 @@
 -- Why an order is refused: by the step that fails.
-use Rattle.std.proofs.Common.{refl, subst, sym}
+use Rattle.std.proofs.Common.{refl, subst}
 use Rattle.std.specs.Prelude.{◌≡◌, ℕ, ◌≤◌, ◌<◌, Bool, false, Option, List, length, Result, Ok, Err, IfOk, IfErr}
 use Rattle.shelf_io.specs.Texts.{Texts}
 use Rattle.ltl_form.specs.declared.normals.FormError.{FormError}
@@ -25,7 +25,7 @@ use Rattle.spec_gen.specs.Arbiter.{arbiter_text}
 use Rattle.bonsai_run.specs.declared.faults.Source.TheVariants.{Specification, Other}
 use Rattle.bonsai_run.specs.declared.faults.Fault.{Fault}
 use Rattle.bonsai_run.specs.declared.faults.Fault.TheVariants.{Unwritten, Usage, Unread, Text, Line, Gap, NotFirst, Length, Formulas, Covers, States, Memory}
-use Rattle.bonsai_run.specs.Causes.{ByLimit, HasLimitFor, HasMachineLimit, HasLassoLimit, HasOwnLimit, IsCause, IsCheckFault, IsEvalFault, IsFetchFault, IsGenFault, IsLater, IsOfText, IsRead, IsUnreadable}
+use Rattle.bonsai_run.specs.Causes.{ByLimit, HasLimitFor, IsCause, IsCauseOfTwo, IsCheckFault, IsEvalFault, IsFetchFault, IsGenFault, IsLater, IsOfText, IsRead, IsUnreadable}
 use Rattle.bonsai_run.specs.Errors.{of_form, of_game, of_lasso, of_machine, of_text}
 use Rattle.bonsai_run.specs.Texts.{IsUnder, IsSpecOf}
 use Rattle.bonsai_run.proofs.Generated.{arbiter_has_no_fault}
@@ -88,14 +88,12 @@ module _ (clients : ℕ) where
 
 -- ---- the first step that fails
 
-module _ (texts : Option Texts) (name other : List ℕ) (as_written : Bool) where
-  pub first_cause : (is_of : Spec → Fault → Type 0) (e : Fault) → IsUnreadable texts name as_written e → IsCause texts name other as_written is_of e
-  first_cause is_of (Unread Specification) h = tt
-  first_cause is_of (Unread Other) h = absurd h
-  first_cause is_of (Length Specification) h = h
-  first_cause is_of (Length Other) h = absurd h
+module _ (texts : Option Texts) (name : List ℕ) (as_written : Bool) where
+  pub first_cause : (is_of : Spec → Fault → Type 0) (e : Fault) → IsUnreadable texts name as_written e → IsCause texts name as_written is_of e
+  first_cause is_of (Unread s) h = h
+  first_cause is_of (Length s) h = h
   first_cause is_of (Text what place) h = h
-  first_cause is_of Memory h = tt
+  first_cause is_of Memory h = h
   first_cause is_of Unwritten h = absurd h
   first_cause is_of Usage h = absurd h
   first_cause is_of (Line l) h = absurd h
@@ -105,30 +103,11 @@ module _ (texts : Option Texts) (name other : List ℕ) (as_written : Bool) wher
   first_cause is_of Covers h = absurd h
   first_cause is_of States h = absurd h
 
-  pub fetch_cause : (is_of : Spec → Fault → Type 0) → IsRead texts name as_written → (e : Fault) → IsFetchFault texts name other Other e → IsCause texts name other as_written is_of e
-  fetch_cause is_of read (Unread Specification) h = tt
-  fetch_cause is_of read (Unread Other) h = read
-  fetch_cause is_of read (Length Specification) h = absurd (apart h.0)
-    where
-      apart : Specification ≡ Other → ⊥
-      apart e = cc
-  fetch_cause is_of read (Length Other) h = (read, h.1)
-  fetch_cause is_of read Memory h = tt
-  fetch_cause is_of read Formulas h = absurd h
-  fetch_cause is_of read Covers h = absurd h
-  fetch_cause is_of read States h = absurd h
-  fetch_cause is_of read Unwritten h = absurd h
-  fetch_cause is_of read Usage h = absurd h
-  fetch_cause is_of read (Text what place) h = absurd h
-  fetch_cause is_of read (Line l) h = absurd h
-  fetch_cause is_of read (Gap s) h = absurd h
-  fetch_cause is_of read (NotFirst s) h = absurd h
-
   module _ (spec : Spec) (is : IsSpecOf texts name as_written spec) where
     later : (is_of : Spec → Fault → Type 0) (e : Fault) → is_of spec e → IsLater texts name as_written is_of e
     later is_of e h = record { spec = spec; is = is; why = h }
 
-    pub limit_cause : (passed : Spec → GameError → Type 0) (e : Fault) → ByLimit (passed spec) e → IsCause texts name other as_written (λ s. ByLimit (passed s)) e
+    limit_cause : (passed : Spec → GameError → Type 0) (e : Fault) → ByLimit (passed spec) e → IsCause texts name as_written (λ s. ByLimit (passed s)) e
     limit_cause passed Formulas h = later (λ s. ByLimit (passed s)) Formulas h
     limit_cause passed Covers h = later (λ s. ByLimit (passed s)) Covers h
     limit_cause passed States h = later (λ s. ByLimit (passed s)) States h
@@ -142,67 +121,105 @@ module _ (texts : Option Texts) (name other : List ℕ) (as_written : Bool) wher
     limit_cause passed (NotFirst s) h = absurd h
     limit_cause passed (Length s) h = absurd h
 
-    pub player_limits : {T : Type 0} (player : Player) (r : Result T Fault) → IfErr r (ByLimit (IsLimitOf spec player)) → IfErr r (IsCause texts name other as_written (HasLimitFor player))
-    player_limits player (Ok x) h = tt
-    player_limits player (Err e) h = by e h
-      where
-        by : (e : Fault) → ByLimit (IsLimitOf spec player) e → IsCause texts name other as_written (HasLimitFor player) e
-        by Formulas h = later (HasLimitFor player) Formulas (record { limit = h })
-        by Covers h = later (HasLimitFor player) Covers (record { limit = h })
-        by States h = later (HasLimitFor player) States (record { limit = h })
-        by Memory h = tt
-        by Unwritten h = absurd h
-        by Usage h = absurd h
-        by (Unread s) h = absurd h
-        by (Text what place) h = absurd h
-        by (Line l) h = absurd h
-        by (Gap s) h = absurd h
-        by (NotFirst s) h = absurd h
-        by (Length s) h = absurd h
+    player_cause : (player : Player) (e : Fault) → ByLimit (IsLimitOf spec player) e → IsCause texts name as_written (HasLimitFor player) e
+    player_cause player Formulas h = later (HasLimitFor player) Formulas (record { limit = h })
+    player_cause player Covers h = later (HasLimitFor player) Covers (record { limit = h })
+    player_cause player States h = later (HasLimitFor player) States (record { limit = h })
+    player_cause player Memory h = tt
+    player_cause player Unwritten h = absurd h
+    player_cause player Usage h = absurd h
+    player_cause player (Unread s) h = absurd h
+    player_cause player (Text what place) h = absurd h
+    player_cause player (Line l) h = absurd h
+    player_cause player (Gap s) h = absurd h
+    player_cause player (NotFirst s) h = absurd h
+    player_cause player (Length s) h = absurd h
 
-    pub limit_causes : {T : Type 0} (passed : Spec → GameError → Type 0) (r : Result T Fault) → IfErr r (ByLimit (passed spec)) → IfErr r (IsCause texts name other as_written (λ s. ByLimit (passed s)))
+    pub limit_causes : {T : Type 0} (passed : Spec → GameError → Type 0) (r : Result T Fault) → IfErr r (ByLimit (passed spec)) → IfErr r (IsCause texts name as_written (λ s. ByLimit (passed s)))
     limit_causes passed (Ok x) h = tt
     limit_causes passed (Err e) h = limit_cause passed e h
 
-    module _ (t : List ℕ) (under : IsUnder texts other t) (short : length t ≤ 1048576) where
-      of_other : (is_of : Spec → List ℕ → Fault → Type 0) (e : Fault) → is_of spec t e → IsLater texts name as_written (IsOfText texts other is_of) e
-      of_other is_of e h = later (IsOfText texts other is_of) e (record { text = t; under = under; short = short; why = h })
+    pub player_limits : {T : Type 0} (player : Player) (r : Result T Fault) → IfErr r (ByLimit (IsLimitOf spec player)) → IfErr r (IsCause texts name as_written (HasLimitFor player))
+    player_limits player (Ok x) h = tt
+    player_limits player (Err e) h = player_cause player e h
 
-      check_cause : (e : Fault) → IsCheckFault spec t e → IsCause texts name other as_written (IsOfText texts other IsCheckFault) e
-      check_cause Formulas h = of_other IsCheckFault Formulas h
-      check_cause Covers h = of_other IsCheckFault Covers h
-      check_cause States h = of_other IsCheckFault States h
-      check_cause (Line l) h = of_other IsCheckFault (Line l) h
-      check_cause (Gap s) h = of_other IsCheckFault (Gap s) h
-      check_cause (NotFirst s) h = of_other IsCheckFault (NotFirst s) h
-      check_cause Memory h = tt
-      check_cause Unwritten h = absurd h.limit
-      check_cause Usage h = absurd h.limit
-      check_cause (Unread s) h = absurd h.limit
-      check_cause (Text what place) h = absurd h.limit
-      check_cause (Length s) h = absurd h.limit
+  -- ---- of an order with a second name
 
-      pub check_causes : {T : Type 0} (r : Result T Fault) → IfErr r (IsCheckFault spec t) → IfErr r (IsCause texts name other as_written (IsOfText texts other IsCheckFault))
-      check_causes (Ok x) h = tt
-      check_causes (Err e) h = check_cause e h
+  module _ (other : List ℕ) (is_of : Spec → List ℕ → Fault → Type 0) where
+    pub first_of_two : (e : Fault) → IsUnreadable texts name as_written e → IsCauseOfTwo texts name other as_written is_of e
+    first_of_two (Unread Specification) h = tt
+    first_of_two (Unread Other) h = absurd h
+    first_of_two (Length Specification) h = h
+    first_of_two (Length Other) h = absurd h
+    first_of_two (Text what place) h = h
+    first_of_two Memory h = tt
+    first_of_two Unwritten h = absurd h
+    first_of_two Usage h = absurd h
+    first_of_two (Line l) h = absurd h
+    first_of_two (Gap s) h = absurd h
+    first_of_two (NotFirst s) h = absurd h
+    first_of_two Formulas h = absurd h
+    first_of_two Covers h = absurd h
+    first_of_two States h = absurd h
 
-      eval_cause : (e : Fault) → IsEvalFault spec t e → IsCause texts name other as_written (IsOfText texts other IsEvalFault) e
-      eval_cause Formulas h = of_other IsEvalFault Formulas h
-      eval_cause (Line l) h = of_other IsEvalFault (Line l) h
-      eval_cause Memory h = tt
-      eval_cause Covers h = absurd h
-      eval_cause States h = absurd h
-      eval_cause (Gap s) h = absurd h
-      eval_cause (NotFirst s) h = absurd h
-      eval_cause Unwritten h = absurd h
-      eval_cause Usage h = absurd h
-      eval_cause (Unread s) h = absurd h
-      eval_cause (Text what place) h = absurd h
-      eval_cause (Length s) h = absurd h
+    apart : Specification ≡ Other → ⊥
+    apart e = cc
 
-      pub eval_causes : {T : Type 0} (r : Result T Fault) → IfErr r (IsEvalFault spec t) → IfErr r (IsCause texts name other as_written (IsOfText texts other IsEvalFault))
-      eval_causes (Ok x) h = tt
-      eval_causes (Err e) h = eval_cause e h
+    pub fetch_cause : IsRead texts name as_written → (e : Fault) → IsFetchFault texts name other Other e → IsCauseOfTwo texts name other as_written is_of e
+    fetch_cause read (Unread Specification) h = tt
+    fetch_cause read (Unread Other) h = read
+    fetch_cause read (Length Specification) h = absurd (apart h.0)
+    fetch_cause read (Length Other) h = (read, h.1)
+    fetch_cause read Memory h = tt
+    fetch_cause read Formulas h = absurd h
+    fetch_cause read Covers h = absurd h
+    fetch_cause read States h = absurd h
+    fetch_cause read Unwritten h = absurd h
+    fetch_cause read Usage h = absurd h
+    fetch_cause read (Text what place) h = absurd h
+    fetch_cause read (Line l) h = absurd h
+    fetch_cause read (Gap s) h = absurd h
+    fetch_cause read (NotFirst s) h = absurd h
+
+  module _ (spec : Spec) (is : IsSpecOf texts name as_written spec) (other t : List ℕ) (under : IsUnder texts other t) (short : length t ≤ 1048576) where
+    of_other : (is_of : Spec → List ℕ → Fault → Type 0) (e : Fault) → is_of spec t e → IsLater texts name as_written (IsOfText texts other is_of) e
+    of_other is_of e h = record { spec = spec; is = is; why = record { text = t; under = under; short = short; why = h } }
+
+    check_cause : (e : Fault) → IsCheckFault spec t e → IsCauseOfTwo texts name other as_written IsCheckFault e
+    check_cause Formulas h = of_other IsCheckFault Formulas h
+    check_cause Covers h = of_other IsCheckFault Covers h
+    check_cause States h = of_other IsCheckFault States h
+    check_cause (Line l) h = of_other IsCheckFault (Line l) h
+    check_cause (Gap s) h = of_other IsCheckFault (Gap s) h
+    check_cause (NotFirst s) h = of_other IsCheckFault (NotFirst s) h
+    check_cause Memory h = tt
+    check_cause Unwritten h = absurd h.limit
+    check_cause Usage h = absurd h.limit
+    check_cause (Unread s) h = absurd h.limit
+    check_cause (Text what place) h = absurd h.limit
+    check_cause (Length s) h = absurd h.limit
+
+    pub check_causes : {T : Type 0} (r : Result T Fault) → IfErr r (IsCheckFault spec t) → IfErr r (IsCauseOfTwo texts name other as_written IsCheckFault)
+    check_causes (Ok x) h = tt
+    check_causes (Err e) h = check_cause e h
+
+    eval_cause : (e : Fault) → IsEvalFault spec t e → IsCauseOfTwo texts name other as_written IsEvalFault e
+    eval_cause Formulas h = of_other IsEvalFault Formulas h
+    eval_cause (Line l) h = of_other IsEvalFault (Line l) h
+    eval_cause Memory h = tt
+    eval_cause Covers h = absurd h
+    eval_cause States h = absurd h
+    eval_cause (Gap s) h = absurd h
+    eval_cause (NotFirst s) h = absurd h
+    eval_cause Unwritten h = absurd h
+    eval_cause Usage h = absurd h
+    eval_cause (Unread s) h = absurd h
+    eval_cause (Text what place) h = absurd h
+    eval_cause (Length s) h = absurd h
+
+    pub eval_causes : {T : Type 0} (r : Result T Fault) → IfErr r (IsEvalFault spec t) → IfErr r (IsCauseOfTwo texts name other as_written IsEvalFault)
+    eval_causes (Ok x) h = tt
+    eval_causes (Err e) h = eval_cause e h
 
 -- an answer for every number of workers
 pub each_answer : {T W : Type 0} (r : Result T Fault) (P : T → W → Type 0) → ((w : W) → IfOk r (λ a. P a w)) → IfOk r (λ a. (w : W) → P a w)

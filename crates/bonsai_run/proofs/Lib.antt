@@ -1,9 +1,14 @@
 mod Answering
 mod Appends
 mod Causing
+mod Completing
 mod Fetches
 mod Generated
 mod Names
+mod OneAnswers
 mod OneVerdict
+mod SameGames
+mod SameSpecs
+mod SameVerdicts
 mod Satisfied
 mod Trying

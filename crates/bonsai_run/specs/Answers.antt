@@ -20,7 +20,9 @@ use Rattle.ltl_form.specs.declared.formulas.Ltl.{Ltl}
 use Rattle.ltl_form.specs.Meaning.{holds_at}
 use Rattle.tlsf_basic.specs.declared.specifications.Spec.{Spec}
 use Rattle.tlsf_basic.specs.Specification.{IsSpec}
-use Rattle.game_form.specs.Game.{GameData, lanes}
+use Rattle.antichain_list.specs.Antichain.{IsAntichain}
+use Rattle.counter_vec.specs.Counters.{at_or_below, lexicographic}
+use Rattle.game_form.specs.Game.{GameData, IsGame, lanes}
 use Rattle.game_form.specs.Held.{HasHeld}
 use Rattle.dual_game.specs.Games.{IsGameOf}
 use Rattle.machine_text.specs.Machines.{machine_text, player_word}
@@ -131,7 +133,8 @@ pub data IsAnswer (texts : Option Texts) : Asked → ℕ → List ℕ → Type 0
       → IsSatisfied spec.formula v → IsAlone pair spec.names v
       → IsAnswer texts (synth name bounds workers as_written) (verdict_of v) (verdict_text spec.names v)
   held : (name : List ℕ) (player : Player) (bound : ℕ) (as_written : Bool) (spec : Spec) (a : AutomatonData) (g : GameData) (vectors : List (List ℤ))
-      → IsSpecOf texts name as_written spec → IsAutomatonOf spec player a → IsGameOf a spec.names player bound g → HasHeld g vectors
+      → IsSpecOf texts name as_written spec → IsAutomatonOf spec player a → IsGame g → IsGameOf a spec.names player bound g
+      → HasHeld g vectors → IsAntichain at_or_below lexicographic vectors
       → IsAnswer texts (downset name player bound as_written) 0 (downset_text player bound (lanes g) vectors)
   valid : (name machine : List ℕ) (bound : ℕ) (as_written : Bool) (spec : Spec) (m : MachineData) (a : AutomatonData)
       → IsSpecOf texts name as_written spec → IsMachineIn texts machine spec m → IsAutomatonOf spec m.player a → Keeps a m bound

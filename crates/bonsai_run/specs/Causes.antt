@@ -1,5 +1,5 @@
 -- Why an order is refused, by its texts.
-use Rattle.std.specs.Prelude.{◌≡◌, ℕ, ◌<◌, ◌≤◌, Bool, false, Option, List, [], length}
+use Rattle.std.specs.Prelude.{◌≡◌, ℕ, ◌<◌, ◌≤◌, Bool, false, Option, List, length}
 use Rattle.shelf_io.specs.Texts.{Texts}
 use Rattle.tlsf_basic.specs.declared.specifications.Spec.{Spec}
 use Rattle.tlsf_basic.specs.Specification.{IsFault, IsSpec, signal_count}
@@ -20,7 +20,7 @@ use Rattle.bonsai_words.specs.Ordered.Asked.{synth, downset, check, eval, gen}
 use Rattle.bonsai_run.specs.declared.faults.Source.{Source}
 use Rattle.bonsai_run.specs.declared.faults.Source.TheVariants.{Specification, Other}
 use Rattle.bonsai_run.specs.declared.faults.Fault.{Fault}
-use Rattle.bonsai_run.specs.declared.faults.Fault.TheVariants.{Unwritten, Usage, Unread, Text, Line, Gap, NotFirst, Length, Formulas, Covers, States, Memory}
+use Rattle.bonsai_run.specs.declared.faults.Fault.TheVariants.{Unread, Text, Line, Gap, NotFirst, Length, Formulas, Covers, States, Memory}
 use Rattle.bonsai_run.specs.Faults.{named}
 use Rattle.bonsai_run.specs.Texts.{IsUnder, IsSpecOf, IsTooLong}
 
@@ -101,19 +101,21 @@ IsUnreadable texts name as_written (Text what place) =
 IsUnreadable texts name as_written Memory = Unit {0}
 IsUnreadable texts name as_written _ = ⊥
 
--- why an order with these two names is refused, where this says which faults of the later steps a specification has
-abbrev pub IsCause : Option Texts → List ℕ → List ℕ → Bool → (Spec → Fault → Type 0) → Fault → Type 0
-IsCause texts name other as_written is_of Unwritten = ⊥
-IsCause texts name other as_written is_of Usage = ⊥
-IsCause texts name other as_written is_of (Unread Other) = IsRead texts name as_written
-IsCause texts name other as_written is_of (Length Other) = IsRead texts name as_written × IsTooLong texts other
-IsCause texts name other as_written is_of (Line line) = IsLater texts name as_written is_of (Line line)
-IsCause texts name other as_written is_of (Gap state) = IsLater texts name as_written is_of (Gap state)
-IsCause texts name other as_written is_of (NotFirst state) = IsLater texts name as_written is_of (NotFirst state)
-IsCause texts name other as_written is_of Formulas = IsLater texts name as_written is_of Formulas
-IsCause texts name other as_written is_of Covers = IsLater texts name as_written is_of Covers
-IsCause texts name other as_written is_of States = IsLater texts name as_written is_of States
-IsCause texts name other as_written is_of fault = IsUnreadable texts name as_written fault
+-- why an order on a specification is refused, where this says which faults of the later steps a specification has
+abbrev pub IsCause : Option Texts → List ℕ → Bool → (Spec → Fault → Type 0) → Fault → Type 0
+IsCause texts name as_written is_of (Line line) = IsLater texts name as_written is_of (Line line)
+IsCause texts name as_written is_of (Gap state) = IsLater texts name as_written is_of (Gap state)
+IsCause texts name as_written is_of (NotFirst state) = IsLater texts name as_written is_of (NotFirst state)
+IsCause texts name as_written is_of Formulas = IsLater texts name as_written is_of Formulas
+IsCause texts name as_written is_of Covers = IsLater texts name as_written is_of Covers
+IsCause texts name as_written is_of States = IsLater texts name as_written is_of States
+IsCause texts name as_written is_of fault = IsUnreadable texts name as_written fault
+
+-- the same of an order with a second name, whose text comes after the specification
+abbrev pub IsCauseOfTwo : Option Texts → List ℕ → List ℕ → Bool → (Spec → List ℕ → Fault → Type 0) → Fault → Type 0
+IsCauseOfTwo texts name other as_written is_of (Unread Other) = IsRead texts name as_written
+IsCauseOfTwo texts name other as_written is_of (Length Other) = IsRead texts name as_written × IsTooLong texts other
+IsCauseOfTwo texts name other as_written is_of fault = IsCause texts name as_written (IsOfText texts other is_of) fault
 
 -- a limit that the specification with this text passes
 pub record HasOwnLimit (text : List ℕ) (fault : Fault) : Type 0 where
@@ -128,8 +130,8 @@ IsGenFault clients fault = HasOwnLimit (arbiter_text clients) fault
 
 -- why an order is refused
 abbrev pub IsCauseOf : Option Texts → Asked → Fault → Type 0
-IsCauseOf texts (synth name bounds workers as_written) fault = IsCause texts name [] as_written (λ spec. ByLimit (IsLimitOfPair spec)) fault
-IsCauseOf texts (downset name player bound as_written) fault = IsCause texts name [] as_written (HasLimitFor player) fault
-IsCauseOf texts (check name machine bound as_written) fault = IsCause texts name machine as_written (IsOfText texts machine IsCheckFault) fault
-IsCauseOf texts (eval name lasso as_written) fault = IsCause texts name lasso as_written (IsOfText texts lasso IsEvalFault) fault
+IsCauseOf texts (synth name bounds workers as_written) fault = IsCause texts name as_written (λ spec. ByLimit (IsLimitOfPair spec)) fault
+IsCauseOf texts (downset name player bound as_written) fault = IsCause texts name as_written (HasLimitFor player) fault
+IsCauseOf texts (check name machine bound as_written) fault = IsCauseOfTwo texts name machine as_written IsCheckFault fault
+IsCauseOf texts (eval name lasso as_written) fault = IsCauseOfTwo texts name lasso as_written IsEvalFault fault
 IsCauseOf texts (gen clients workers) fault = IsGenFault clients fault

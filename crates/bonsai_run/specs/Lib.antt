@@ -1,5 +1,6 @@
 pub mod Answers
 pub mod Causes
+pub mod Complete
 pub mod Errors
 pub mod Faults
 pub mod Generated

@@ -4,7 +4,7 @@ use Rattle.shelf_io.specs.Texts.{Texts, text_of}
 use Rattle.tlsf_basic.specs.declared.specifications.Spec.{Spec}
 use Rattle.tlsf_basic.specs.Specification.{IsSpec, signal_count}
 use Rattle.word_core.specs.Lasso.{LassoData}
-use Rattle.word_core.specs.Machine.{MachineData}
+use Rattle.word_core.specs.Machine.{MachineData, IsMachine}
 use Rattle.machine_text.specs.Lassos.{IsLasso, lasso_text}
 use Rattle.machine_text.specs.Machines.{Spells}
 
@@ -19,14 +19,21 @@ pub record IsSpecOf (texts : Option Texts) (name : List ℕ) (as_written : Bool)
   pub short : length text ≤ 1048576
   pub is : IsSpec text as_written spec
 
--- the text under a name is that of a lasso over the specification's signals
-abbrev pub IsLassoOf : Option Texts → List ℕ → Spec → LassoData → Type 0
-IsLassoOf texts name spec w = IsLasso (signal_count spec.names) w × IsUnder texts name (lasso_text (signal_count spec.names) w)
+-- the text under a name, of at most 1,048,576 bytes, is that of a lasso over the specification's signals
+pub record IsLassoOf (texts : Option Texts) (name : List ℕ) (spec : Spec) (w : LassoData) : Type 0 where
+  pub text : List ℕ
+  pub under : IsUnder texts name text
+  pub short : length text ≤ 1048576
+  pub is : IsLasso (signal_count spec.names) w
+  pub spells : text ≡ lasso_text (signal_count spec.names) w
 
--- the text under a name is that of a machine over the specification's names, perhaps behind a verdict and a bound
+-- the text under a name, of at most 1,048,576 bytes, is that of a machine over the specification's names, perhaps behind a
+-- verdict and a bound
 pub record IsMachineIn (texts : Option Texts) (name : List ℕ) (spec : Spec) (m : MachineData) : Type 0 where
   pub text : List ℕ
   pub under : IsUnder texts name text
+  pub short : length text ≤ 1048576
+  pub is : IsMachine m
   pub spells : Spells spec.names text m
 
 -- there is a longer text under a name

@@ -29,6 +29,7 @@ pub fn check_answer(alloc: Global, spec: &Spec, text: &[u8], bound: u32) -> Resu
     ensures fault { IfErr result (IsCheckFault spec.now text.now) }
 {
     let machine = read_machine(alloc, text, &spec.names)?;
+    let _ = machine.states();
     let a = automaton(alloc, spec, machine.player())?;
     let kept = keeps(alloc, &a, &machine, bound)?;
     Ok(kept_answer(alloc, kept)?)

@@ -13,6 +13,7 @@ ghost use Rattle.shelf_io.specs.Texts.{Texts};
 
 use crate::answers::{Answer, push_number};
 use crate::faults::Fault;
+use crate::verdicts::ascends;
 use antichain_list::{Downset, ListDownset};
 use counter_vec::Counters;
 use dual_game::{automaton, game};
@@ -39,8 +40,12 @@ pub fn downset_answer(
 {
     let a = automaton(alloc, spec, player)?;
     let g = game(alloc, &a, &spec.names, player, bound)?;
+    g.known();
     match solve(alloc, &g, true)? {
-        Solved::Held(list) => Ok(held_answer(alloc, player, bound, g.lanes(), &list)?),
+        Solved::Held(list) => {
+            ascends(&list);
+            Ok(held_answer(alloc, player, bound, g.lanes(), &list)?)
+        }
         Solved::Lost => unreachable!(),
     }
 }

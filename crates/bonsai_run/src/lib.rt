@@ -18,5 +18,5 @@ mod texts;
 mod verdicts;
 mod writing;
 
-pub use laws::verdict_is_one;
+pub use laws::{answer_is_one, verdict_is_one};
 pub use runs::run_alone;

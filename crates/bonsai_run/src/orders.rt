@@ -9,7 +9,7 @@ ghost use Rattle.bonsai_words.specs.Ordered.{asked};
 ghost use Rattle.bonsai_words.specs.Ordered.Asked.{synth, downset, check, eval};
 ghost use Rattle.bonsai_run.specs.Answers.{IsAnswer};
 ghost use Rattle.dual_game.specs.Automata.{IsLimitOfPair};
-ghost use Rattle.bonsai_run.specs.Causes.{ByLimit, HasLimitFor, IsCause, IsCauseOf, IsCheckFault, IsEvalFault, IsOfText};
+ghost use Rattle.bonsai_run.specs.Causes.{ByLimit, HasLimitFor, IsCause, IsCauseOf, IsCauseOfTwo, IsCheckFault, IsEvalFault};
 ghost use Rattle.bonsai_run.specs.Faults.{Blames};
 ghost use Rattle.bonsai_run.specs.Runs.{first_name, second_name};
 ghost use Rattle.bonsai_run.specs.Texts.{IsSpecOf};
@@ -84,7 +84,7 @@ fn synth<H: Shelf>(
     requires bounds { AreBounds bounds }
     ensures answer { IfOk result (λ a. (workers : ℕ) → IsAnswer (H.texts shelf.old) (synth name.now bounds workers as_written) a.status a.text.items) }
     ensures blames { IfErr result (Blames (H.faults shelf.old) (H.faults shelf.new) (H.last_failed shelf.new) name.now []) }
-    ensures cause { IfErr result (IsCause (H.texts shelf.old) name.now [] as_written (λ spec. ByLimit (IsLimitOfPair spec))) }
+    ensures cause { IfErr result (IsCause (H.texts shelf.old) name.now as_written (λ spec. ByLimit (IsLimitOfPair spec))) }
 {
     let spec = specification(alloc, shelf, name, "", as_written)?;
     decided_answer(alloc, &spec, bounds)
@@ -116,7 +116,7 @@ fn downset<H: Shelf>(
     requires bound { bound ≤ 10000 }
     ensures answer { IfOk result (λ a. IsAnswer (H.texts shelf.old) (downset name.now player bound as_written) a.status a.text.items) }
     ensures blames { IfErr result (Blames (H.faults shelf.old) (H.faults shelf.new) (H.last_failed shelf.new) name.now []) }
-    ensures cause { IfErr result (IsCause (H.texts shelf.old) name.now [] as_written (HasLimitFor player)) }
+    ensures cause { IfErr result (IsCause (H.texts shelf.old) name.now as_written (HasLimitFor player)) }
 {
     let spec = specification(alloc, shelf, name, "", as_written)?;
     downset_answer(alloc, &spec, player, bound)
@@ -135,7 +135,7 @@ fn check<H: Shelf>(
     requires other { 0 < length machine.now }
     ensures answer { IfOk result (λ a. IsAnswer (H.texts shelf.old) (check name.now machine.now bound as_written) a.status a.text.items) }
     ensures blames { IfErr result (Blames (H.faults shelf.old) (H.faults shelf.new) (H.last_failed shelf.new) name.now machine.now) }
-    ensures cause { IfErr result (IsCause (H.texts shelf.old) name.now machine.now as_written (IsOfText (H.texts shelf.old) machine.now IsCheckFault)) }
+    ensures cause { IfErr result (IsCauseOfTwo (H.texts shelf.old) name.now machine.now as_written IsCheckFault) }
 {
     let spec = specification(alloc, shelf, name, machine, as_written)?;
     match text_of(alloc, shelf, name, machine, Source::Other) {
@@ -156,7 +156,7 @@ fn eval<H: Shelf>(
     requires other { 0 < length lasso.now }
     ensures answer { IfOk result (λ a. IsAnswer (H.texts shelf.old) (eval name.now lasso.now as_written) a.status a.text.items) }
     ensures blames { IfErr result (Blames (H.faults shelf.old) (H.faults shelf.new) (H.last_failed shelf.new) name.now lasso.now) }
-    ensures cause { IfErr result (IsCause (H.texts shelf.old) name.now lasso.now as_written (IsOfText (H.texts shelf.old) lasso.now IsEvalFault)) }
+    ensures cause { IfErr result (IsCauseOfTwo (H.texts shelf.old) name.now lasso.now as_written IsEvalFault) }
 {
     let spec = specification(alloc, shelf, name, lasso, as_written)?;
     match text_of(alloc, shelf, name, lasso, Source::Other) {

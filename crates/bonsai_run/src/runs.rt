@@ -8,6 +8,7 @@ ghost use Rattle.shelf_io.specs.Texts.{Texts};
 ghost use Rattle.shelf_io.specs.Written.{appended, AppendsPrefix};
 ghost use Rattle.bonsai_run.specs.Answers.{IsAnswer};
 ghost use Rattle.bonsai_run.specs.Causes.{IsCauseOf};
+ghost use Rattle.bonsai_run.specs.Complete.{IsAnswerable};
 ghost use Rattle.bonsai_run.specs.Faults.{status_of, fault_text};
 ghost use Rattle.bonsai_run.specs.Runs.{first_name, second_name, name_of, other_of, IsFaultStatus};
 ghost use Rattle.bonsai_run.specs.Writing.{Tells};
@@ -44,6 +45,8 @@ pub fn run_alone<H: Shelf, O: Sink, E: Sink>(
     ensures unread { result ≡ 3 → Rose (H.faults shelf.old) (H.faults shelf.new) × ((name : List ℕ) × Contains (map string_bytes words.now) name × (H.last_failed shelf.new ≡ Some name) × Tells (E.written err.old) (E.written err.new) (E.faults err.old) (E.faults err.new) (codes "bonsai: cannot read " ++ name ++ codes "\n")) }
     ensures kept { 2 ≤ result → result ≤ 6 → O.written out.new ≡ O.written out.old }
     ensures refused { 3 ≤ result → result ≤ 6 → (result ≡ 6) ⊎ ((order : Asked) × (fault : Fault) × (ordered (map string_bytes words.now) ≡ Some order) × (result ≡ status_of fault) × IsCauseOf (H.texts shelf.old) order fault × Tells (E.written err.old) (E.written err.new) (E.faults err.old) (E.faults err.new) (fault_text (name_of order) (other_of order) fault)) }
+    ensures complete { (told : Texts) (order : Asked) → H.texts shelf.old ≡ Some told → ordered (map string_bytes words.now) ≡ Some order → IsAnswerable told order
+        → (Rose (H.faults shelf.old) (H.faults shelf.new) → ⊥) → (Rose (O.faults out.old) (O.faults out.new) → ⊥) → (result ≡ 6) ⊎ (IsFaultStatus result → ⊥) }
     ensures told { IsFaultStatus result → (name other : List ℕ) × (fault : Fault) × (result ≡ status_of fault) × Tells (E.written err.old) (E.written err.new) (E.faults err.old) (E.faults err.new) (fault_text name other fault) }
 {
     let order = match read_words(alloc, words) {

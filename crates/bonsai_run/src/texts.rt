@@ -1,6 +1,6 @@
 //! The texts that an order names.
 
-ghost use Rattle.std.specs.Prelude.{◌≡◌, ◌<◌, ◌≤◌, length, vec_len, IfOk, IfErr, true};
+ghost use Rattle.std.specs.Prelude.{◌≡◌, ◌<◌, ◌≤◌, length, IfOk, IfErr, true};
 ghost use Rattle.ltl_form.specs.Formula.{signals_below};
 ghost use Rattle.tlsf_basic.specs.Specification.{signal_count};
 ghost use Rattle.bonsai_run.specs.Causes.{IsUnreadable, IsFetchFault};
@@ -34,8 +34,7 @@ pub fn text_of<H: Shelf>(
     source: Source,
 ) -> Result<Vec<u8>, Fault>
     requires { 0 < length (named name.now other.now source) }
-    ensures short { IfOk result (λ text. vec_len text ≤ 1048576) }
-    ensures bytes { IfOk result (λ text. length text.items ≤ 1048576) }
+    ensures short { IfOk result (λ text. length text.items ≤ 1048576) }
     ensures under { IfOk result (λ text. IsUnder (H.texts shelf.old) (named name.now other.now source) text.items) }
     ensures long { IfErr result (λ e. IsFetchFault (H.texts shelf.old) name.now other.now source e) }
     ensures texts_stay { H.texts shelf.new ≡ H.texts shelf.old }

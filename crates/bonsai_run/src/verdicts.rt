@@ -223,7 +223,7 @@ fn strategy(alloc: Global, g: &Game, list: &ListDownset<Counters>) -> Result<Mac
 }
 
 /// What is known of every list: its entries ascend, and none is at or below another one.
-fn ascends(list: &ListDownset<Counters>)
+pub fn ascends(list: &ListDownset<Counters>)
     ensures { IsAntichain at_or_below lexicographic list.now }
 {
     let _ = list.entries();

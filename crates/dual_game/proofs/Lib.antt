@@ -1,6 +1,6 @@
 mod Alike
 pub mod Avoiding
-mod Counted
+pub mod Counted
 mod Decided
 mod FullTree
 mod Grouped
@@ -10,7 +10,7 @@ mod MadeRows
 mod Meeting
 pub mod OneAutomaton
 mod OneForm
-mod OneList
+pub mod OneList
 pub mod OneWhole
 pub mod OneWinner
 mod Places

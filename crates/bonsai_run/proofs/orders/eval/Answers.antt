@@ -1,7 +1,7 @@
-use Rattle.std.proofs.Common.{subst, sym, ap, ◌∙◌}
+use Rattle.std.proofs.Common.{subst, sym}
 use Rattle.std.specs.Prelude.{IfErr}
 use Rattle.bonsai_run.specs.declared.faults.Source.TheVariants.{Other}
-use Rattle.bonsai_run.specs.Causes.{IsEvalFault, IsFetchFault, IsOfText}
+use Rattle.bonsai_run.specs.Causes.{IsEvalFault, IsFetchFault}
 use Rattle.bonsai_run.specs.Texts.{IsUnder}
 use Rattle.bonsai_run.proofs.Causing.{eval_causes, fetch_cause}
 use Rattle.bonsai_run.proofs.orders.eval.Goals as goal
@@ -15,10 +15,10 @@ returns-in-Ok-clause-answer g c =
 pub returns-in-Ok-clause-cause : goal.returns-in-Ok-clause-cause
 returns-in-Ok-clause-cause g c =
     let under = subst (λ t. IsUnder t c.args.lasso.now c.in-Ok.text.items) c.in_ok-spec.ensures.texts_stay c.in-Ok.ensures.under in
-    eval_causes (g.H.Shelf.texts c.args.shelf.now) c.args.name.now c.args.lasso.now c.args.as_written c.in_ok-spec.spec c.in_ok-spec.ensures.is c.in-Ok.text.items under c.in-Ok.ensures.bytes
+    eval_causes (g.H.Shelf.texts c.args.shelf.now) c.args.name.now c.args.as_written c.in_ok-spec.spec c.in_ok-spec.ensures.is c.args.lasso.now c.in-Ok.text.items under c.in-Ok.ensures.short
     c.eval_answer.result (subst (λ b. IfErr c.eval_answer.result (IsEvalFault c.in_ok-spec.spec b)) c.deref.ensures.value c.eval_answer.ensures.fault)
 
 pub returns-clause-cause : goal.returns-clause-cause
 returns-clause-cause g c =
     let fault = subst (λ t. IsFetchFault t c.args.name.now c.args.lasso.now Other c.in-Err.fault) c.in_ok-spec.ensures.texts_stay c.in-Err.ensures.long in
-    fetch_cause (g.H.Shelf.texts c.args.shelf.now) c.args.name.now c.args.lasso.now c.args.as_written (IsOfText (g.H.Shelf.texts c.args.shelf.now) c.args.lasso.now IsEvalFault) (c.in_ok-spec.spec, c.in_ok-spec.ensures.is) c.in-Err.fault fault
+    fetch_cause (g.H.Shelf.texts c.args.shelf.now) c.args.name.now c.args.as_written c.args.lasso.now IsEvalFault (c.in_ok-spec.spec, c.in_ok-spec.ensures.is) c.in-Err.fault fault

@@ -1,4 +1,4 @@
-use Rattle.std.specs.Prelude.{ℕ, []}
+use Rattle.std.specs.Prelude.{ℕ}
 use Rattle.bonsai_words.specs.Ordered.Asked.{synth}
 use Rattle.dual_game.specs.Automata.{IsLimitOfPair}
 use Rattle.bonsai_run.specs.declared.answers.Answer.{Answer}
@@ -13,4 +13,4 @@ returns-clause-answer g c =
 
 pub returns-clause-cause : goal.returns-clause-cause
 returns-clause-cause g c =
-    limit_causes (g.H.Shelf.texts c.args.shelf.now) c.args.name.now [] c.args.as_written c.in_ok-spec.spec c.in_ok-spec.ensures.is IsLimitOfPair c.decided_answer.result c.decided_answer.ensures.fault
+    limit_causes (g.H.Shelf.texts c.args.shelf.now) c.args.name.now c.args.as_written c.in_ok-spec.spec c.in_ok-spec.ensures.is IsLimitOfPair c.decided_answer.result c.decided_answer.ensures.fault

@@ -15,5 +15,5 @@ returns-else-len-gt-MOST_BYTES-clause-under g c =
     let short : length text < 1048577 = omega (arith, c.len.ensures, c.if-len-gt-MOST_BYTES.false) in
     λ told is. whole told _ 1048577 text (subst (λ n. Fetched told n 1048577 text) c.named-asked.ensures (c.in-Ok.ensures.bytes told is)) short
 
-pub returns-else-len-gt-MOST_BYTES-clause-bytes : goal.returns-else-len-gt-MOST_BYTES-clause-bytes
-returns-else-len-gt-MOST_BYTES-clause-bytes g c = omega (arith, c.len.ensures, c.if-len-gt-MOST_BYTES.false)
+pub returns-else-len-gt-MOST_BYTES-clause-short : goal.returns-else-len-gt-MOST_BYTES-clause-short
+returns-else-len-gt-MOST_BYTES-clause-short g c = omega (arith, c.len.ensures, c.if-len-gt-MOST_BYTES.false)
