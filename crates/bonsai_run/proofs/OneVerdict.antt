@@ -1,8 +1,7 @@
 -- A specification has one verdict.
-use Rattle.std.proofs.Common.{◌≡◌, ℕ, ◌<◌, ◌≤◌, Bool, true, false, nat_lt, List, refl, sym, ◌∙◌, ap, subst, arith}
+use Rattle.std.proofs.Common.{◌≡◌, ℕ, ◌≤◌, Bool, true, false, nat_lt, List, refl, sym, ◌∙◌, ap, subst, arith}
 use borrow.Author.Tests.{ltb-true, ltb-false}
 use Rattle.tlsf_basic.specs.declared.specifications.Spec.{Spec}
-use Rattle.word_core.specs.declared.names.Names.{Names}
 use Rattle.word_core.specs.declared.names.Player.{Player}
 use Rattle.word_core.specs.declared.names.Player.TheVariants.{System, Environment}
 use Rattle.word_core.specs.declared.machines.Line.{Line}
@@ -17,8 +16,7 @@ use Rattle.dual_game.proofs.Tried.{tried_low}
 use Rattle.dual_game.specs.declared.bounds.Bounds.{Bounds}
 use Rattle.dual_game.specs.declared.games.Pair.{Pair}
 use Rattle.dual_game.specs.Automata.{IsPairOf}
-use Rattle.dual_game.specs.Bounds.{IsTried}
-use Rattle.dual_game.specs.Winning.{Wins, NobodyWins, automaton_of}
+use Rattle.dual_game.specs.Winning.{Wins, automaton_of}
 use Rattle.dual_game.proofs.OneAutomaton.{automaton_is_one}
 use Rattle.bonsai_run.specs.declared.verdicts.Verdict.{Verdict}
 use Rattle.bonsai_run.specs.declared.verdicts.Verdict.TheVariants.{Won, Unknown}

@@ -1,5 +1,5 @@
 -- A verdict on one reading of a specification is one on each.
-use Rattle.std.proofs.Common.{◌≡◌, ℕ, ◌≤◌, ◌++◌, Bool, List, codes, length, map, string_bytes, refl, sym, ap, ◌∙◌, subst}
+use Rattle.std.proofs.Common.{◌≡◌, ℕ, ◌≤◌, ◌++◌, arith, Bool, List, codes, length, string_bytes, refl, sym, ap, ◌∙◌}
 use Rattle.std.proofs.lemmas.List.{length-append, length-map}
 use Rattle.word_core.specs.declared.machines.Line.{Line}
 use Rattle.word_core.specs.declared.names.Player.{Player}

@@ -1,5 +1,5 @@
 -- What a verdict on automata says of the formula.
-use Rattle.std.proofs.Common.{◌≡◌, ℕ, ◌<◌, Bool, true, false, not, length, refl, sym, ◌∙◌, ap}
+use Rattle.std.proofs.Common.{◌≡◌, ℕ, ◌<◌, Bool, true, false, not, length, refl, ap}
 use Rattle.tlsf_basic.specs.declared.specifications.Spec.{Spec}
 use Rattle.ltl_form.specs.Meaning.{holds_at}
 use Rattle.word_core.specs.declared.names.Names.{Names}
@@ -9,7 +9,7 @@ use Rattle.word_core.specs.Automaton.{AutomatonData}
 use Rattle.word_core.specs.Lasso.{LassoData}
 use Rattle.word_core.specs.Machine.{MachineData}
 use Rattle.word_core.specs.Play.{IsLassoPlay}
-use Rattle.word_core.specs.Run.{Keeps, Accepts}
+use Rattle.word_core.specs.Run.{Keeps}
 use Rattle.dual_game.specs.declared.bounds.Bounds.{Bounds}
 use Rattle.dual_game.specs.declared.games.Pair.{Pair}
 use Rattle.dual_game.specs.Automata.{avoided, IsAutomatonOf, IsPairOf}

@@ -210,9 +210,11 @@ module _ (a : AutomatonData) (g : GameData) (known : IsGame g) (well : IsAutomat
           let in_q : q < length a.states = subst (λ i. IfSome i (λ q. q < length a.states)) e well.begins in
           let lane_is : lane (initial g) q ≡ pos 0 = lane_initial g q (subst (λ n. q < n) (sym lanes_are) in_q) ∙ ap (λ i. begins i q) (begun ∙ e) ∙ begins_here q in
           let first : HasCount (initial g) q 0 = subst (λ z. pos (min (bound g + 1) 0) ≤ℤ z) (sym lane_is) (zero_least (bound g + 1)) in
-          let r = counted letters edges q 0 (initial g) inside in_q (length_initial g) first h.0 in
-          (subst (λ n. n < lanes g) h.1 (subst (λ n. end_of q edges < n) (sym lanes_are) r.0), r.1,
-          subst (λ n. HasCount (after g (initial g) (moves_of g letters)) n (count edges)) h.1 (subst (λ n. HasCount (after g (initial g) (moves_of g letters)) (end_of q edges) n) (from_zero (count edges)) r.2))
+          let r = counted letters edges q 0 (initial g) inside in_q (length_initial g) first h.0 in (
+            subst (λ n. n < lanes g) h.1 (subst (λ n. end_of q edges < n) (sym lanes_are) r.0),
+            r.1,
+            subst (λ n. HasCount (after g (initial g) (moves_of g letters)) n (count edges)) h.1 (subst (λ n. HasCount (after g (initial g) (moves_of g letters)) (end_of q edges) n) (from_zero (count edges)) r.2),
+          )
 
 module _ (g : GameData) (m : MachineData) (is : IsMachine m) (owns : own_of m ≡ own_width g) (others : other_of m ≡ other_width g) (player : m.player ≡ g.player) (inputs : m.inputs ≡ g.inputs) where
   pub same_moves : (letters : List ℕ) → map (move_of m.player m.inputs) letters ≡ moves_of g letters

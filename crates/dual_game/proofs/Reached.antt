@@ -179,7 +179,7 @@ module _ (a : AutomatonData) (g : GameData) (rows : HasRows a g) (lanes_are : la
       let lifted = brought_from (bound g) (lane v from.0) (number (row_at (action_at g act) from.0) rest.start) rest.first from.3 in
       let taken = edge_taken (edges_at a from.0) x rest.start lifted.more
       (ap (λ y. edge_number (edges_at a from.0) y rest.start) (sym (letter_again g.player g.inputs x))
-          ∙ sym (rows move.own move.other from.0 rest.start in_move.own in_move.other (subst (λ l. from.0 < l) lanes_are in_q)) ∙ lifted.number_is) in
+      ∙ sym (rows move.own move.other from.0 rest.start in_move.own in_move.other (subst (λ l. from.0 < l) lanes_are in_q)) ∙ lifted.number_is) in
       record {
         start = from.0;
         within = in_q;

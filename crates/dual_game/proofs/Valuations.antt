@@ -103,9 +103,9 @@ module _ (m : MachineData) (v : LassoData) (is : IsMachine m) (some : 0 < length
           let minus : (s + r) - s ≡ r = omega arith in
           ap (bits_at v) (place_after (s) (c) some n l)
           ∙ ap bits_of (chosen_above (s + r) (s) (slice_get v.stem (s + r)) (slice_get v.cycle (((s + r) - s) % c)) (omega arith)
-              ∙ ap (λ k. slice_get v.cycle (k % c)) minus
-              ∙ ap (slice_get v.cycle) (small_mod r (c) (mod_below (n - s) (c) some))
-              ∙ sym (chosen_above n (s) (slice_get v.stem n) (slice_get v.cycle r) l))
+          ∙ ap (λ k. slice_get v.cycle (k % c)) minus
+          ∙ ap (slice_get v.cycle) (small_mod r (c) (mod_below (n - s) (c) some))
+          ∙ sym (chosen_above n (s) (slice_get v.stem n) (slice_get v.cycle r) l))
 
   line : ℕ → Line
   line i = record { when = any; own = bits_at v i; next = next_place s c i }
@@ -210,11 +210,13 @@ module _ (m : MachineData) (v : LassoData) (is : IsMachine m) (some : 0 < length
       let in_own : move.own < 2 ^ other_of giver = subst (λ w. move.own < 2 ^ w) (sym (other_there)) (subst (λ o. o < 2 ^ own_of m) (sym found.2.0) found.1.1) in
       let parts = split_list move.other (bits_at v k) (others_in m xs) (window v (suc k) (length xs)) same in
       let later = taking xs (suc k) found.0.next found.1.2 found.2.1 parts.1 in
-      subst (λ (u : Move). (u.other < 2 ^ other_of giver) × MatchOption (choice (lines_at giver (at k)) u.other) ⊥ (λ l. (u.own ≡ l.own) × IsPlayFrom giver l.next rest)) (sym (move_is x))
-      (in_own, subst (λ o. MatchOption o ⊥ (λ l. (move.other ≡ l.own) × IsPlayFrom giver l.next rest)) (sym (gives k move.own)) (
+      subst (λ (u : Move). (u.other < 2 ^ other_of giver) × MatchOption (choice (lines_at giver (at k)) u.other) ⊥ (λ l. (u.own ≡ l.own) × IsPlayFrom giver l.next rest)) (sym (move_is x)) (
+        in_own,
+        subst (λ o. MatchOption o ⊥ (λ l. (move.other ≡ l.own) × IsPlayFrom giver l.next rest)) (sym (gives k move.own)) (
           parts.0 ∙ there_own k,
           subst (λ i. IsPlayFrom giver i rest) (sym (next_there k)) later,
-      ))
+        ),
+      )
 
   pub played_once : IsPlayedOnce m v
   played_once =

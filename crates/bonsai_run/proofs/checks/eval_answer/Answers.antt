@@ -1,4 +1,4 @@
-use Rattle.std.proofs.Common.{◌<◌, ◌∙◌, sym, length, arith}
+use Rattle.std.proofs.Common.{◌<◌, ◌∙◌, sym, arith}
 use Rattle.word_core.specs.Lasso.{size}
 use Rattle.bonsai_run.proofs.Answering.{is_evaluated, is_lasso}
 use Rattle.bonsai_run.proofs.checks.eval_answer.Goals as goal

@@ -1,4 +1,4 @@
-use Rattle.std.proofs.Common.{◌≡◌, ◌++◌, ◌∙◌, ap, false, subst}
+use Rattle.std.proofs.Common.{◌++◌, ◌∙◌, ap, false, subst}
 use Rattle.tlsf_basic.specs.Specification.{IsSpec}
 use Rattle.bonsai_run.specs.Answers.{verdict_comment}
 use Rattle.bonsai_run.proofs.Answering.{is_generated}

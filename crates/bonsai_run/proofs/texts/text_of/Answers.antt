@@ -1,4 +1,4 @@
-use Rattle.std.proofs.Common.{◌≡◌, ◌<◌, ◌≤◌, length, refl, subst, arith}
+use Rattle.std.proofs.Common.{◌<◌, ◌≤◌, length, refl, subst, arith}
 use Rattle.shelf_io.specs.Texts.{Fetched}
 use Rattle.bonsai_run.proofs.Fetches.{whole, longer}
 use Rattle.bonsai_run.proofs.texts.text_of.Goals as goal
