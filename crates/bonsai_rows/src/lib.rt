@@ -2,6 +2,4 @@
 #![tactic(auto)]
 
 #[cfg(test)]
-mod limits;
-#[cfg(test)]
 mod tests;
