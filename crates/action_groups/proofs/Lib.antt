@@ -18,4 +18,5 @@ pub mod SameEffects
 pub mod Sides
 pub mod Splits
 pub mod Steps
+pub mod Thinned
 pub mod Unique

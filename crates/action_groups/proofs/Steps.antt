@@ -106,7 +106,7 @@ within_rise : (b : Bool) (m n : ℕ) → m ≤ n → cond b m 0 ≤ cond b n 0
 within_rise true m n le = le
 within_rise false m n le = omega arith
 
-number_rises : (s t : ℕ × ℕ × Bool) (q p : ℕ) → s.0 ≡ t.0 → s.1 ≡ t.1 → (s.2 ≡ true → t.2 ≡ true) → step_number s q p ≤ step_number t q p
+pub number_rises : (s t : ℕ × ℕ × Bool) (q p : ℕ) → s.0 ≡ t.0 → s.1 ≡ t.1 → (s.2 ≡ true → t.2 ≡ true) → step_number s q p ≤ step_number t q p
 number_rises s t q p e f g =
     let B : ℕ → ℕ → Bool = λ x y. nat_eq x q && nat_eq y p in
     let same : B s.0 s.1 ≡ B t.0 t.1 = ap (λ x. B x s.1) e ∙ ap (B t.0) f in

@@ -14,4 +14,5 @@ pub mod Row
 pub mod Rows
 pub mod Sides
 pub mod Tests
+pub mod Thinned
 pub mod Way

@@ -15,7 +15,8 @@ ghost use Rattle.action_groups.specs.Way.{IsWay, AreSteps};
 use crate::groups::{Letters, split_rest};
 use crate::orders::Order;
 use crate::parts::{joined, lifted, push_leaf, push_split};
-use crate::ways::{Way, is_tested, restricted};
+use crate::thinnings::part_of;
+use crate::ways::{Way, is_tested};
 use indexmap::IndexSet;
 use std::alloc::{AllocError, Global};
 use word_core::Branch;
@@ -136,11 +137,11 @@ pub fn split_first(
         let rest = split_first(alloc, ways, count, order, place + 1, letters, firsts)?;
         return Ok(lifted(alloc, &rest, left, firsts.options.len())?);
     }
-    let unset = restricted(alloc, ways, signal, 0, count)?;
+    let unset = part_of(alloc, ways, order, place, 0, count)?;
     let low = split_first(alloc, &unset, count, order, place + 1, letters, firsts)?;
     let letter_at = letters.nodes.len() - 1;
     let at = firsts.nodes.len() - 1;
-    let set = restricted(alloc, ways, signal, 1, count)?;
+    let set = part_of(alloc, ways, order, place, 1, count)?;
     let high = split_first(alloc, &set, count, order, place + 1, letters, firsts)?;
     let actions = letters.effects.len();
     push_split(&mut letters.nodes, place, letter_at, whole, actions)?;

@@ -13,7 +13,8 @@ ghost use Rattle.action_groups.specs.Way.{IsWay, AreSteps};
 
 use crate::orders::Order;
 use crate::parts::{joined, lifted, push_leaf, push_split};
-use crate::ways::{Way, effect, is_tested, restricted};
+use crate::thinnings::part_of;
+use crate::ways::{Way, effect, is_tested};
 use indexmap::IndexSet;
 use std::alloc::{AllocError, Global};
 use word_core::Branch;
@@ -97,10 +98,10 @@ pub fn split_rest(
         let rest = split_rest(alloc, ways, count, order, place + 1, letters)?;
         return Ok(lifted(alloc, &rest, left, letters.effects.len())?);
     }
-    let unset = restricted(alloc, ways, signal, 0, count)?;
+    let unset = part_of(alloc, ways, order, place, 0, count)?;
     let low = split_rest(alloc, &unset, count, order, place + 1, letters)?;
     let at = letters.nodes.len() - 1;
-    let set = restricted(alloc, ways, signal, 1, count)?;
+    let set = part_of(alloc, ways, order, place, 1, count)?;
     let high = split_rest(alloc, &set, count, order, place + 1, letters)?;
     push_split(&mut letters.nodes, place, at, width, letters.effects.len())?;
     Ok(joined(alloc, &low, &high, left, letters.effects.len())?)

@@ -10,6 +10,7 @@ mod orders;
 mod parts;
 mod ranks;
 mod rows;
+mod thinnings;
 mod ways;
 
 pub use games::make_game;

@@ -48,7 +48,7 @@ pub fn ways_of(alloc: Global, a: &Automaton) -> Result<Vec<Way>, AllocError>
 }
 
 /// The bit of a signal.
-fn bit_of(bits: u64, signal: u32) -> u64
+pub fn bit_of(bits: u64, signal: u32) -> u64
     requires { signal < 64 }
     ensures { result ≡ bit_at bits signal }
 {

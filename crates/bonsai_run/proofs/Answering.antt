@@ -2,6 +2,7 @@
 use Rattle.std.proofs.Common.{◌≡◌, ℕ, ◌≤◌, ℤ, Bool, true, false, Option, List, ◌++◌, codes, length, refl, subst, sym, ap, ◌∙◌}
 use Rattle.std.specs.Prelude.{◌↔◌, IsTrue}
 use Rattle.word_core.specs.declared.names.Player.{Player}
+use Rattle.word_core.specs.declared.names.Player.TheVariants.{Environment}
 use Rattle.word_core.specs.Automaton.{AutomatonData}
 use Rattle.word_core.specs.Lasso.{LassoData}
 use Rattle.word_core.specs.Machine.{MachineData, IsMachine}
@@ -19,7 +20,7 @@ use Rattle.game_form.specs.Game.{GameData, IsGame, lanes}
 use Rattle.game_form.specs.Held.{HasHeld}
 use Rattle.dual_game.specs.declared.games.Pair.{Pair}
 use Rattle.dual_game.specs.Games.{IsGameOf}
-use Rattle.dual_game.specs.Automata.{IsAutomatonOf, IsPairOf}
+use Rattle.dual_game.specs.Automata.{formula_count, IsAutomatonOf, IsPairOf}
 use Rattle.bonsai_words.specs.Ordered.{Asked}
 use Rattle.bonsai_words.specs.Ordered.Asked.{synth, downset, check, eval, gen}
 use Rattle.bonsai_run.specs.declared.answers.Answer.{Answer}
@@ -61,14 +62,14 @@ module _ (texts : Option Texts) where
   is_over name machine bound as_written spec m a s t of under accepts keeps h k = answer_as _ s _ t _ h k (over name machine bound as_written spec m a of under accepts keeps)
 
   pub is_holds : (name lasso : List ℕ) (as_written : Bool) (spec : Spec) (w : LassoData) (s : ℕ) (t : List ℕ)
-      → IsSpecOf texts name as_written spec → IsLassoOf texts lasso spec w → holds_at w spec.formula 0 ≡ true → s ≡ 0 → t ≡ codes "HOLDS" ++ codes "\n"
+      → IsSpecOf texts name as_written spec → IsLassoOf texts lasso spec w → formula_count spec Environment ≤ 512 → holds_at w spec.formula 0 ≡ true → s ≡ 0 → t ≡ codes "HOLDS" ++ codes "\n"
       → IsAnswer texts (eval name lasso as_written) s t
-  is_holds name lasso as_written spec w s t of under is h k = answer_as _ s _ t _ h k (holds name lasso as_written spec w of under is)
+  is_holds name lasso as_written spec w s t of under few is h k = answer_as _ s _ t _ h k (holds name lasso as_written spec w of under few is)
 
   pub is_fails : (name lasso : List ℕ) (as_written : Bool) (spec : Spec) (w : LassoData) (s : ℕ) (t : List ℕ)
-      → IsSpecOf texts name as_written spec → IsLassoOf texts lasso spec w → holds_at w spec.formula 0 ≡ false → s ≡ 40 → t ≡ codes "FAILS" ++ codes "\n"
+      → IsSpecOf texts name as_written spec → IsLassoOf texts lasso spec w → formula_count spec Environment ≤ 512 → holds_at w spec.formula 0 ≡ false → s ≡ 40 → t ≡ codes "FAILS" ++ codes "\n"
       → IsAnswer texts (eval name lasso as_written) s t
-  is_fails name lasso as_written spec w s t of under is h k = answer_as _ s _ t _ h k (fails name lasso as_written spec w of under is)
+  is_fails name lasso as_written spec w s t of under few is h k = answer_as _ s _ t _ h k (fails name lasso as_written spec w of under few is)
 
   pub is_generated : (clients workers : ℕ) (spec : Spec) (pair : Pair) (v : Verdict) (s : ℕ) (t : List ℕ)
       → IsSpec (arbiter_text clients) false spec → spec.formula ≡ arbiter_formula clients → IsPairOf spec pair → IsVerdict pair spec.names (bounds_of (0, 1, 8)) v → s ≡ 0 → t ≡ arbiter_text clients ++ verdict_comment v
@@ -90,15 +91,15 @@ module _ (texts : Option Texts) where
 
   -- of a formula that held or not
   pub is_evaluated : (name lasso : List ℕ) (as_written : Bool) (spec : Spec) (w : LassoData) (held : Bool) (answer : Answer)
-      → IsSpecOf texts name as_written spec → IsLassoOf texts lasso spec w → holds_at w spec.formula 0 ≡ held
+      → IsSpecOf texts name as_written spec → IsLassoOf texts lasso spec w → formula_count spec Environment ≤ 512 → holds_at w spec.formula 0 ≡ held
       → (held ≡ true → IsWord 0 (codes "HOLDS") answer) → (held ≡ false → IsWord 40 (codes "FAILS") answer)
       → IsAnswer texts (eval name lasso as_written) answer.status answer.text.items
-  is_evaluated name lasso as_written spec w true answer of under is yes_word no_word =
+  is_evaluated name lasso as_written spec w true answer of under few is yes_word no_word =
       let v = yes_word refl in
-      is_holds name lasso as_written spec w answer.status answer.text.items of under is v.0 v.1
-  is_evaluated name lasso as_written spec w false answer of under is yes_word no_word =
+      is_holds name lasso as_written spec w answer.status answer.text.items of under few is v.0 v.1
+  is_evaluated name lasso as_written spec w false answer of under few is yes_word no_word =
       let v = no_word refl in
-      is_fails name lasso as_written spec w answer.status answer.text.items of under is v.0 v.1
+      is_fails name lasso as_written spec w answer.status answer.text.items of under few is v.0 v.1
 
   pub is_lasso : (lasso : List ℕ) (spec : Spec) (w : LassoData) (text : List ℕ) (signals : ℕ) → signals ≡ signal_count spec.names → IsLasso signals w × (text ≡ lasso_text signals w)
       → IsUnder texts lasso text → length text ≤ 1048576 → IsLassoOf texts lasso spec w

@@ -7,7 +7,6 @@ mod Generated
 mod Names
 mod OneAnswers
 mod OneVerdict
-mod SameGames
 mod SameSpecs
 mod SameVerdicts
 mod Satisfied

@@ -23,9 +23,10 @@ use Rattle.game_form.specs.Held.{HasHeld}
 use Rattle.dual_game.specs.declared.bounds.Bounds.{Bounds}
 use Rattle.dual_game.specs.declared.games.Pair.{Pair}
 use Rattle.dual_game.specs.Automata.{IsAutomatonOf, IsPairOf}
-use Rattle.dual_game.specs.Games.{IsGameOf, kind_of}
+use Rattle.dual_game.specs.Games.{IsGameOf}
 use Rattle.dual_game.proofs.OneAutomaton.{automaton_is_one}
 use Rattle.dual_game.proofs.OneList.{held_list_is_one}
+use Rattle.dual_game.proofs.SameGames.{list_same}
 use Rattle.bonsai_words.specs.Ordered.Asked.{synth, downset, check, eval, gen}
 use Rattle.bonsai_run.specs.declared.verdicts.Verdict.{Verdict}
 use Rattle.bonsai_run.specs.Answers.{IsAnswer, IsVerdict, bounds_of, downset_text, verdict_comment, verdict_of, verdict_text}
@@ -33,7 +34,6 @@ use Rattle.bonsai_run.specs.Answers.IsAnswer.{decided, held, valid, over, holds,
 use Rattle.bonsai_run.specs.Laws.{AnswerIsOne}
 use Rattle.bonsai_run.specs.Texts.{IsSpecOf, IsLassoOf, IsMachineIn}
 use Rattle.bonsai_run.proofs.Completing.{one_spec, one_text}
-use Rattle.bonsai_run.proofs.SameGames.{AreGames, list_same}
 use Rattle.bonsai_run.proofs.OneVerdict.{verdict_is_one}
 use Rattle.bonsai_run.proofs.SameVerdicts.{few_signals, pair_same, verdict_same, verdict_text_same}
 use Rattle.bonsai_run.proofs.SameSpecs.{automaton_same, count_same, inputs_same, inputs_whole, outputs_same, outputs_whole, spells_same}
@@ -104,8 +104,8 @@ record IsEvaluated (told : Texts) (name lasso : List ℕ) (as_written : Bool) (s
   text_is : text ≡ truth_text (holds_at w spec.formula 0)
 
 evaluated : (told : Texts) (name lasso : List ℕ) (as_written : Bool) (s : ℕ) (t : List ℕ) → IsAnswer (Some told) (eval name lasso as_written) s t → IsEvaluated told name lasso as_written s t
-evaluated told name lasso as_written s t (holds name' lasso' as_written' spec w of spelt is) = record { spec = spec; w = w; of = of; spelt = spelt; status_is = ap truth_status (sym is); text_is = ap truth_text (sym is) }
-evaluated told name lasso as_written s t (fails name' lasso' as_written' spec w of spelt is) = record { spec = spec; w = w; of = of; spelt = spelt; status_is = ap truth_status (sym is); text_is = ap truth_text (sym is) }
+evaluated told name lasso as_written s t (holds name' lasso' as_written' spec w of spelt few is) = record { spec = spec; w = w; of = of; spelt = spelt; status_is = ap truth_status (sym is); text_is = ap truth_text (sym is) }
+evaluated told name lasso as_written s t (fails name' lasso' as_written' spec w of spelt few is) = record { spec = spec; w = w; of = of; spelt = spelt; status_is = ap truth_status (sym is); text_is = ap truth_text (sym is) }
 
 one_eval : (told : Texts) (name lasso : List ℕ) (as_written : Bool) (s n : ℕ) (t u : List ℕ) → IsEvaluated told name lasso as_written s t → IsEvaluated told name lasso as_written n u → (s ≡ n) × (t ≡ u)
 one_eval told name lasso as_written s n t u x y = (x.status_is ∙ ap truth_status truth ∙ sym y.status_is, x.text_is ∙ ap truth_text truth ∙ sym y.text_is)
@@ -160,23 +160,12 @@ one_downset told name player bound as_written s n t u x y =
     wide : lanes x.g ≡ lanes y.g
     wide = played.lanes ∙ sym y.played.lanes
 
-    both : AreGames y.a x.g y.g
-    both = record {
-      one = x.game;
-      other = y.game;
-      player = played.player ∙ sym y.played.player;
-      kind = played.kind ∙ ap (kind_of player) same.2 ∙ sym y.played.kind;
-      inputs = played.inputs ∙ inputs_same x.spec y.spec same ∙ sym y.played.inputs;
-      outputs = played.outputs ∙ outputs_same x.spec y.spec same ∙ sym y.played.outputs;
-      bounds = played.bound ∙ sym y.played.bound;
-      one_lanes = played.lanes;
-      other_lanes = y.played.lanes;
-      one_rows = played.rows;
-      other_rows = y.played.rows;
-    }
+    all : HasHeld y.g x.vectors
+    all =
+        list_same y.a y.made.well x.spec.names y.spec.names player bound x.g y.g same.2 (inputs_same x.spec y.spec same) (outputs_same x.spec y.spec same) x.game y.game played y.played x.vectors x.all
 
     lists : x.vectors ≡ y.vectors
-    lists = held_list_is_one y.g x.vectors y.vectors (list_same y.a x.g y.g both x.vectors x.all) y.all x.ascending y.ascending
+    lists = held_list_is_one y.g x.vectors y.vectors all y.all x.ascending y.ascending
 
 -- ---- what is decided
 

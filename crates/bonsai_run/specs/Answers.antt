@@ -1,5 +1,5 @@
 -- The texts of answers, by their statuses.
-use Rattle.std.specs.Prelude.{◌≡◌, ◌<◌, ℕ, ℤ, Bool, true, false, Option, List, [], ◌∷◌, ◌++◌, codes, decimal, length}
+use Rattle.std.specs.Prelude.{◌≡◌, ◌<◌, ◌≤◌, ℕ, ℤ, Bool, true, false, Option, List, [], ◌∷◌, ◌++◌, codes, decimal, length}
 use Rattle.std.specs.Fmt.{signed_decimal}
 use Rattle.word_core.specs.declared.names.Player.{Player}
 use Rattle.word_core.specs.declared.names.Player.TheVariants.{System, Environment}
@@ -12,7 +12,7 @@ use Rattle.word_core.specs.Run.{Keeps}
 use Rattle.dual_game.specs.declared.bounds.Bounds.{Bounds}
 use Rattle.dual_game.specs.declared.games.Pair.{Pair}
 use Rattle.dual_game.specs.Bounds.{IsTried}
-use Rattle.dual_game.specs.Automata.{avoided, IsAutomatonOf, IsPairOf}
+use Rattle.dual_game.specs.Automata.{avoided, formula_count, IsAutomatonOf, IsPairOf}
 use Rattle.dual_game.specs.Machines.{IsMachineOfWhole}
 use Rattle.dual_game.specs.Winning.{IsMachineFor, Wins, NobodyWins, automaton_of}
 use Rattle.shelf_io.specs.Texts.{Texts}
@@ -144,10 +144,10 @@ pub data IsAnswer (texts : Option Texts) : Asked → ℕ → List ℕ → Type 0
       → IsSpecOf texts name as_written spec → IsMachineIn texts machine spec m → IsAutomatonOf spec m.player a → (Keeps a m bound → ⊥)
       → IsAnswer texts (check name machine bound as_written) 40 (codes "OVER\n")
   holds : (name lasso : List ℕ) (as_written : Bool) (spec : Spec) (w : LassoData)
-      → IsSpecOf texts name as_written spec → IsLassoOf texts lasso spec w → holds_at w spec.formula 0 ≡ true
+      → IsSpecOf texts name as_written spec → IsLassoOf texts lasso spec w → formula_count spec Environment ≤ 512 → holds_at w spec.formula 0 ≡ true
       → IsAnswer texts (eval name lasso as_written) 0 (codes "HOLDS\n")
   fails : (name lasso : List ℕ) (as_written : Bool) (spec : Spec) (w : LassoData)
-      → IsSpecOf texts name as_written spec → IsLassoOf texts lasso spec w → holds_at w spec.formula 0 ≡ false
+      → IsSpecOf texts name as_written spec → IsLassoOf texts lasso spec w → formula_count spec Environment ≤ 512 → holds_at w spec.formula 0 ≡ false
       → IsAnswer texts (eval name lasso as_written) 40 (codes "FAILS\n")
   generated : (clients workers : ℕ) (spec : Spec) (pair : Pair) (v : Verdict)
       → IsSpec (arbiter_text clients) false spec → spec.formula ≡ arbiter_formula clients → IsPairOf spec pair → IsVerdict pair spec.names (bounds_of (0, 1, 8)) v

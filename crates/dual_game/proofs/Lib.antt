@@ -15,6 +15,7 @@ pub mod OneWhole
 pub mod OneWinner
 mod Places
 mod Reached
+pub mod SameGames
 mod SameMachine
 mod Shadow
 mod Shared

@@ -1,10 +1,12 @@
-use Rattle.std.proofs.Common.{◌≡◌, ℕ, ◌<◌, ◌≤◌, ◌+◌, ◌-◌, ◌++◌, ◌∙◌, List, length, refl, ap, subst, arith}
+use Rattle.std.proofs.Common.{◌≡◌, ℕ, ◌<◌, ◌≤◌, ◌+◌, ◌-◌, ◌++◌, ◌∙◌, List, length, refl, sym, ap, subst, arith}
 use Rattle.std.specs.Int.{bit_at}
 use Rattle.std.specs.List.{All, filter}
 use Rattle.std.proofs.lemmas.Grind.{common_steps}
 use Rattle.action_groups.specs.Labels.{IsLabelled, shifted}
 use Rattle.action_groups.specs.Sides.{leads}
 use Rattle.action_groups.specs.Tests.{allows, signal_of}
+use Rattle.action_groups.specs.Thinned.{AllowSame}
+use Rattle.action_groups.specs.declared.ways.Way.{Way}
 use Rattle.action_groups.proofs.Allowed.{rest_effects, split_effects}
 use Rattle.action_groups.proofs.Grown.{split_of, label_below}
 use Rattle.action_groups.proofs.Splits.{rest_labelled, split_labelled, leaf_options, split_options}
@@ -84,10 +86,13 @@ returns-clause-exact t c =
     let some : 0 < length low = omega (arith, c.in_ok-low.ensures.letters_grow) in
     let size : c.len-letter_at.result ≡ length low = grind (arith, common_steps) in
     let split = split_of c.args.place (c.len-letter_at.result - 1) low high now some (ap (λ n. n - 1) size) c.in_ok-high.ensures.letters_kept c.in_ok-push_split.ensures.split in
-    let unset : c.deref-2.result.now ≡ filter (λ w. allows w.edge.cube (signal_of c.args.order c.args.place) 0) ways =
-    c.deref-2.ensures.value ∙ c.in_ok-unset.ensures.value ∙ ap (λ s. filter (λ w. allows w.edge.cube s 0) ways) c.signal-signal.ensures.value in
-    let set : c.deref-3.result.now ≡ filter (λ w. allows w.edge.cube (signal_of c.args.order c.args.place) 1) ways =
-    c.deref-3.ensures.value ∙ c.in_ok-set.ensures.value ∙ ap (λ s. filter (λ w. allows w.edge.cube s 1) ways) c.signal-signal.ensures.value in
-    split_effects c.args.order c.args.place (c.args.place + 1) low high now before effects ways c.deref-2.result.now c.deref-3.result.now refl within split unset set
+    let unset : List Way = filter (λ w. allows w.edge.cube (signal_of c.args.order c.args.place) 0) ways in
+    let set : List Way = filter (λ w. allows w.edge.cube (signal_of c.args.order c.args.place) 1) ways in
+    let less : AllowSame c.args.order (c.args.place + 1) c.deref-2.result.now unset =
+    subst (λ (l : List Way). AllowSame c.args.order (c.args.place + 1) l unset) (sym c.deref-2.ensures.value) c.in_ok-unset.ensures.same in
+    let more : AllowSame c.args.order (c.args.place + 1) c.deref-3.result.now set =
+    subst (λ (l : List Way). AllowSame c.args.order (c.args.place + 1) l set) (sym c.deref-3.ensures.value) c.in_ok-set.ensures.same in
+    split_effects c.args.order c.args.place (c.args.place + 1) low high now before effects ways unset set refl within split refl refl
     (label_below (c.args.order.inputs + c.args.order.outputs) (length before) low wide c.in_ok-low.ensures.letter_nodes some)
-    c.in_ok-high.ensures.effect_lists c.in_ok-low.ensures.exact c.in_ok-high.ensures.exact
+    c.in_ok-high.ensures.effect_lists
+    (λ bits q p. c.in_ok-low.ensures.exact bits q p ∙ less bits q p) (λ bits q p. c.in_ok-high.ensures.exact bits q p ∙ more bits q p)
