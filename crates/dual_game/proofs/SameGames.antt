@@ -1,5 +1,5 @@
 -- Two games of one automaton have the same held vectors: each state is a class of its own.
-use Rattle.std.proofs.Common.{◌≡◌, ℕ, ◌<◌, List, length, Option, Some, None, refl, sym, ◌∙◌, ap, subst, arith}
+use Rattle.std.proofs.Common.{◌≡◌, ℕ, ◌+◌, ◌<◌, List, length, Option, Some, None, refl, sym, ◌∙◌, ap, subst, arith}
 use Rattle.std.specs.Prelude.{ℤ, ◌≤ℤ◌, option_map}
 use Rattle.std.specs.List.{All, Contains, range_with_len}
 use Rattle.std.specs.Option.{IfSome}
@@ -31,7 +31,7 @@ module _ (a : AutomatonData) (known : IsAutomaton a) where
   own_classes = range_with_len 0 (length a.states)
 
   own : (s : ℕ) → s < length a.states → class_at own_classes s ≡ s
-  own s l = get_or-range_with_len 0 (length a.states) s 0 l
+  own s l = (let plain : 0 + s ≡ s = omega arith in get_or-range_with_len 0 (length a.states) s 0 l ∙ plain)
 
   edge_within : (s : ℕ) (e : Edge) → s < length a.states → Contains (edges_at a s) e → e.next < length a.states
   edge_within s e l has =
