@@ -53,7 +53,7 @@ effect_rows count nodes effects met order labels p all numbering letter own bits
     ∙ own (get_or labels (label_of nodes bits) 0) q r there.0 lt
     ∙ ap (λ l. steps_number (items_at effects l) q r) there.1
 
-pub part_rows : (order : Order) (a : AutomatonData) (nodes : List Branch) (effects : List (Vec (ℕ × ℕ × Bool) Global)) (ways : List Way) (p : Parts) → a.signals ≡ order.inputs + order.outputs → HasEdges a ways → HasEffects order 0 nodes effects ways → HasEffectRows (length a.states) nodes effects p → HasPartRows order.inputs order.outputs order.inputs_first a p
+pub part_rows : (order : Order) (a : AutomatonData) (nodes : List Branch) (effects : List (Vec (ℕ × ℕ × Bool) Global)) (ways : List Way) (p : Parts) → a.signals ≡ order.inputs + order.outputs → HasEdges a ways → HasEffects order 0 (label_of nodes) effects ways → HasEffectRows (length a.states) nodes effects p → HasPartRows order.inputs order.outputs order.inputs_first a p
 part_rows order a nodes effects ways p signals edges exact rows x bits q r letter lt =
     rows bits q r lt
     ∙ exact bits q r

@@ -9,8 +9,6 @@ use Rattle.std.proofs.lemmas.List.Elements.{All-tail}
 use Rattle.std.proofs.lemmas.Nat.Bits.{bit_at-lt}
 use Rattle.std.proofs.lemmas.Bool.Decides.{Decides-eqb}
 use Rattle.word_core.specs.declared.cubes.Cube.{Cube}
-use Rattle.word_core.specs.declared.branches.Branch.{Branch}
-use Rattle.word_core.specs.Tree.{label_of}
 use Rattle.action_groups.specs.declared.orders.Order.{Order}
 use Rattle.action_groups.specs.declared.ways.Way.{Way}
 use Rattle.action_groups.specs.Labels.{IsSplitOf}
@@ -43,8 +41,8 @@ from_more order n place next bits c e f =
     ∙ ap (λ k. allows c (signal_of order place) (bit_at bits place) && allows_from order (order.inputs + order.outputs - next) k bits c) (sym f)
 
 -- a signal that no edge cares for
-pub rest_effects : (order : Order) (place next : ℕ) (nodes : List Branch) (effects : List (Vec (ℕ × ℕ × Bool) Global)) (ways : List Way) → next ≡ place + 1 → place < order.inputs + order.outputs → All (λ w. bit_at w.edge.cube.care (signal_of order place) ≡ 0) ways → HasEffects order next nodes effects ways → HasEffects order place nodes effects ways
-rest_effects order place next nodes effects ways en lt free h bits q p =
+pub rest_effects : (order : Order) (place next : ℕ) (labels : ℕ → ℕ) (effects : List (Vec (ℕ × ℕ × Bool) Global)) (ways : List Way) → next ≡ place + 1 → place < order.inputs + order.outputs → All (λ w. bit_at w.edge.cube.care (signal_of order place) ≡ 0) ways → HasEffects order next labels effects ways → HasEffects order place labels effects ways
+rest_effects order place next labels effects ways en lt free h bits q p =
     h bits q p ∙ ap (λ (l : List Way). steps_number (map step_of l) q p) (sym same)
   where
     one : (w : Way) → bit_at w.edge.cube.care (signal_of order place) ≡ 0 → allows_from order (order.inputs + order.outputs - place) place bits w.edge.cube ≡ allows_from order (order.inputs + order.outputs - next) next bits w.edge.cube
@@ -57,7 +55,7 @@ rest_effects order place next nodes effects ways en lt free h bits q p =
     same = filter_same (λ w. allows_from order (order.inputs + order.outputs - place) place bits w.edge.cube) (λ w. allows_from order (order.inputs + order.outputs - next) next bits w.edge.cube) ways (λ k d inside. one (get_or ways k d) (free k d inside))
 
 -- a signal with its two parts
-pub split_effects : (order : Order) (place next : ℕ) (low high now : List Branch) (before effects : List (Vec (ℕ × ℕ × Bool) Global)) (ways ls hs : List Way) → next ≡ place + 1 → place < order.inputs + order.outputs → IsSplitOf place low high now → ls ≡ filter (λ w. allows w.edge.cube (signal_of order place) 0) ways → hs ≡ filter (λ w. allows w.edge.cube (signal_of order place) 1) ways → ((bits : ℕ) → label_of low bits < length before) → KeepsLists before effects → HasEffects order next low before ls → HasEffects order next high effects hs → HasEffects order place now effects ways
+pub split_effects : (order : Order) (place next : ℕ) (low high now : ℕ → ℕ) (before effects : List (Vec (ℕ × ℕ × Bool) Global)) (ways ls hs : List Way) → next ≡ place + 1 → place < order.inputs + order.outputs → IsSplitOf place low high now → ls ≡ filter (λ w. allows w.edge.cube (signal_of order place) 0) ways → hs ≡ filter (λ w. allows w.edge.cube (signal_of order place) 1) ways → ((bits : ℕ) → low bits < length before) → KeepsLists before effects → HasEffects order next low before ls → HasEffects order next high effects hs → HasEffects order place now effects ways
 split_effects order place next low high now before effects ways ls hs en lt s el eh below keeps h k bits q p = go (eqb (bit_at bits place) 1) refl
   where
     one : (w : Way) (n : ℕ) → bit_at bits place ≡ n → (allows w.edge.cube (signal_of order place) n && allows_from order (order.inputs + order.outputs - next) next bits w.edge.cube) ≡ allows_from order (order.inputs + order.outputs - place) place bits w.edge.cube
@@ -79,20 +77,20 @@ split_effects order place next low high now before effects ways ls hs en lt s el
         go (inl f) = (let g : eqb (bit_at bits place) 1 ≡ true = (Decides-eqb (bit_at bits place) 1).1 f in absurd (cc))
         go (inr n) = (let l : bit_at bits place < 2 = bit_at-lt bits place in omega arith)
 
-    go : (b : Bool) → eqb (bit_at bits place) 1 ≡ b → steps_number (items_at effects (label_of now bits)) q p ≡ steps_number (map step_of (allowing order place bits ways)) q p
+    go : (b : Bool) → eqb (bit_at bits place) 1 ≡ b → steps_number (items_at effects (now bits)) q p ≡ steps_number (map step_of (allowing order place bits ways)) q p
     go true e =
-        ap (λ l. steps_number (items_at effects l) q p) (s bits ∙ side_by place (label_of low bits) (label_of high bits) bits true e)
+        ap (λ l. steps_number (items_at effects l) q p) (s bits ∙ side_by place (low bits) (high bits) bits true e)
         ∙ k bits q p
         ∙ ap (λ (ws : List Way). steps_number (map step_of ws) q p) (part 1 hs ((Decides-eqb (bit_at bits place) 1).0 e) eh)
     go false e =
-        ap (λ l. steps_number (items_at effects l) q p) (s bits ∙ side_by place (label_of low bits) (label_of high bits) bits false e)
-        ∙ ap (λ (l : List (ℕ × ℕ × Bool)). steps_number l q p) (keeps (label_of low bits) (below bits))
+        ap (λ l. steps_number (items_at effects l) q p) (s bits ∙ side_by place (low bits) (high bits) bits false e)
+        ∙ ap (λ (l : List (ℕ × ℕ × Bool)). steps_number l q p) (keeps (low bits) (below bits))
         ∙ h bits q p
         ∙ ap (λ (ws : List Way). steps_number (map step_of ws) q p) (part 0 ls (off e) el)
 
 -- all signals are decided
-pub leaf_effects : (order : Order) (place label : ℕ) (nodes : List Branch) (effects : List (Vec (ℕ × ℕ × Bool) Global)) (ways : List Way) → order.inputs + order.outputs ≤ place → ((bits : ℕ) → label_of nodes bits ≡ label) → HasSameNumbers (items_at effects label) (map step_of ways) → HasEffects order place nodes effects ways
-leaf_effects order place label nodes effects ways le leaf h bits q p =
+pub leaf_effects : (order : Order) (place label : ℕ) (labels : ℕ → ℕ) (effects : List (Vec (ℕ × ℕ × Bool) Global)) (ways : List Way) → order.inputs + order.outputs ≤ place → ((bits : ℕ) → labels bits ≡ label) → HasSameNumbers (items_at effects label) (map step_of ways) → HasEffects order place labels effects ways
+leaf_effects order place label labels effects ways le leaf h bits q p =
     let none : order.inputs + order.outputs - place ≡ 0 = omega arith in
     let whole : allowing order place bits ways ≡ ways = ap (λ n. filter (λ w. allows_from order n place bits w.edge.cube) ways) none ∙ filter_all ways in
     ap (λ l. steps_number (items_at effects l) q p) (leaf bits)

@@ -36,7 +36,7 @@ class_numbered lists numbers (p ∷ order) (suc c) lt = class_numbered lists num
 module _
     (width count : ℕ) (letters firsts : List Branch) (lists : List (Vec (ℕ × ℕ) Global)) (pairs order : List (ℕ × ℕ))
     (numbers labels : List ℕ) (p : Parts)
-    (labelled : IsLabelled 0 firsts pairs) (chosen : HasOptions width letters firsts lists) (numbering : IsNumbering pairs order numbers)
+    (labelled : IsLabelled 0 (label_of firsts) pairs) (chosen : HasOptions width (label_of letters) (label_of firsts) lists) (numbering : IsNumbering pairs order numbers)
     (within : ArePairs width count order) (classes : p.classes.items ≡ map (class_from lists labels) order)
     (letter : (bits : ℕ) → label_of p.letters.items bits ≡ get_or labels (label_of letters bits) 0)
     (first_of : (bits : ℕ) → label_of p.firsts.items bits ≡ get_or numbers (label_of firsts bits) 0) where
@@ -62,7 +62,7 @@ module _
   meets c second lt =
       let q : ℕ × ℕ = pair_at order c in
       let options : List (ℕ × ℕ) = items_at lists q.1 in
-      let own : AreOptionsOf width q.0 letters options = subst (λ l. AreOptionsOf width q.0 letters (items_at lists l)) (least_label c lt) (chosen q.0 (within c (0, 0) lt).0) in
+      let own : AreOptionsOf width q.0 (label_of letters) options = subst (λ l. AreOptionsOf width q.0 (label_of letters) (items_at lists l)) (least_label c lt) (chosen q.0 (within c (0, 0) lt).0) in
       let w = own.all second in
       let below : w.0 < length options = w.1 in (
         w.0,

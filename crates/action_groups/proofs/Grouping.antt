@@ -92,7 +92,7 @@ with_numbers_same labels actions (x ∷ xs) (y ∷ ys) h k e =
     tail_of (z ∷ zs) = zs
 
 -- each label of the tree of letters is met
-pub labels_met : (order : Order) (letters firsts : List Branch) (lists : List (Vec (ℕ × ℕ) Global)) (pairs classes : List (ℕ × ℕ)) (numbers : List ℕ) → IsLabelled 0 firsts pairs → HasOptions (leads order) letters firsts lists → IsNumbering pairs classes numbers
+pub labels_met : (order : Order) (letters firsts : List Branch) (lists : List (Vec (ℕ × ℕ) Global)) (pairs classes : List (ℕ × ℕ)) (numbers : List ℕ) → IsLabelled 0 (label_of firsts) pairs → HasOptions (leads order) (label_of letters) (label_of firsts) lists → IsNumbering pairs classes numbers
     → (f s : ℕ) → f < 2 ^ leads order → HasAtMost (letters_of order lists classes) (label_of letters (f + s * 2 ^ leads order)) (letter_number order.inputs order.inputs_first f s)
 labels_met order letters firsts lists pairs classes numbers labelled chosen numbering f s lt =
     let w = labelled.all f in
@@ -107,7 +107,7 @@ labels_met order letters firsts lists pairs classes numbers labelled chosen numb
     (number_rises order.inputs order.inputs_first (pair_at classes c.0).0 f (pair_at options o.0).0 s c.3 o.3)
     (letters_have order lists classes c.0 (label_of firsts f) o.0 c.1 c.2 o.1)
 
-pub all_met : (order : Order) (letters firsts : List Branch) (lists : List (Vec (ℕ × ℕ) Global)) (pairs classes : List (ℕ × ℕ)) (numbers : List ℕ) → IsLabelled 0 firsts pairs → HasOptions (leads order) letters firsts lists → IsNumbering pairs classes numbers
+pub all_met : (order : Order) (letters firsts : List Branch) (lists : List (Vec (ℕ × ℕ) Global)) (pairs classes : List (ℕ × ℕ)) (numbers : List ℕ) → IsLabelled 0 (label_of firsts) pairs → HasOptions (leads order) (label_of letters) (label_of firsts) lists → IsNumbering pairs classes numbers
     → (bits : ℕ) → HasNumber (letters_of order lists classes) (label_of letters bits)
 all_met order letters firsts lists pairs classes numbers labelled chosen numbering bits =
     let size : ℕ = 2 ^ leads order in
@@ -120,7 +120,7 @@ all_met order letters firsts lists pairs classes numbers labelled chosen numberi
 module _
     (order : Order) (count : ℕ) (letters firsts : List Branch) (lists : List (Vec (ℕ × ℕ) Global)) (pairs classes actions : List (ℕ × ℕ))
     (numbers labels : List ℕ) (p : Parts)
-    (labelled : IsLabelled 0 firsts pairs) (chosen : HasOptions (leads order) letters firsts lists)
+    (labelled : IsLabelled 0 (label_of firsts) pairs) (chosen : HasOptions (leads order) (label_of letters) (label_of firsts) lists)
     (numbering : IsNumbering pairs classes numbers) (within : ArePairs (leads order) (length lists) classes)
     (ranged : AreOptions (follows order) count lists) (labelling : IsNumbering (letters_of order lists classes) actions labels)
     (distinct : (c d : ℕ) → c < length lists → d < length lists → items_at lists c ≡ items_at lists d → c ≡ d)

@@ -7,7 +7,7 @@ use Rattle.std.proofs.lemmas.List.{get_or_append_left, get_or_push, length_push,
 use Rattle.word_core.specs.declared.branches.Branch.{Branch}
 use Rattle.word_core.specs.declared.branches.Branch.TheVariants.{Leaf, Split}
 use Rattle.word_core.specs.Tree.{IsNodeAt, label_from, label_at, label_of, next_label, side}
-use Rattle.word_core.proofs.TreeLabels.{label_leaf, label_split, label_of-all}
+use Rattle.word_core.proofs.TreeLabels.{label_leaf, label_split, label_at-all, label_of-all}
 use Rattle.action_groups.proofs.Makes.{tree_over, placed_nodes}
 use Rattle.action_groups.specs.Part.{AreNodes, IsNodeOver}
 use Rattle.action_groups.specs.Labels.{KeepsLabels, IsSplitOf}
@@ -100,8 +100,34 @@ split_pushed width count nodes now signal low le h within lt e bits =
     ∙ keeps (side signal low high bits) bits (side_earlier signal low high bits (length nodes) lt (omega arith))
     ∙ at_side (λ p. label_at nodes p bits) signal low high bits
 
+copied_nodes : (width count : ℕ) (nodes : List Branch) (at : ℕ) (node : Branch) → at < length nodes → IsNodeOver width count at node → IsNodeOver width count (length nodes) node
+copied_nodes width count nodes at (Leaf label) lt h = h
+copied_nodes width count nodes at (Split signal low high) lt h = (h.0, omega (arith, h.1), omega (arith, h.2))
+
+pub nodes_copied : (width count : ℕ) (nodes now : List Branch) (at : ℕ) (d : Branch) → at < length nodes → AreNodes width count nodes → now ≡ nodes ++ get_or nodes at d ∷ [] → AreNodes width count now
+nodes_copied width count nodes now at d lt h e = nodes_pushed width count nodes now (get_or nodes at d) (copied_nodes width count nodes at (get_or nodes at d) lt (h at d lt)) h e
+
+-- a copy of an earlier node has its labels
+pub copy_pushed : (width count : ℕ) (nodes now : List Branch) (at : ℕ) (d : Branch) → width ≤ 64 → AreNodes width count nodes → at < length nodes → now ≡ nodes ++ get_or nodes at d ∷ [] → (bits : ℕ) → label_of now bits ≡ label_at nodes at bits
+copy_pushed width count nodes now at d le h lt e bits = go (get_or nodes at d) (slice_get-get_or nodes at d lt) (h at d lt) e
+  where
+    some : 0 < length nodes
+    some = omega arith
+
+    go : (node : Branch) → slice_get nodes at ≡ Some node → IsNodeOver width count at node → now ≡ nodes ++ node ∷ [] → label_of now bits ≡ label_at nodes at bits
+    go (Leaf label) there w f = leaf_pushed nodes now label f bits ∙ sym (label_leaf nodes at bits label there)
+    go (Split signal low high) there w f =
+        let long : length now ≡ length nodes + 1 = ap (λ (l : List Branch). length l) f ∙ length_push nodes (Split signal low high) in
+        let k = nodes_pushed width count nodes now (Split signal low high) (w.0, omega (arith, w.1), omega (arith, w.2)) h f in
+        let t = tree_over width count now le k (omega arith) in
+        let old = tree_over width count nodes le h some in
+        let keeps = keeps_pushed width count nodes now (Split signal low high) le h f in
+        label_split now t.tree (length now - 1) bits signal low high (got_pushed nodes now (Split signal low high) f)
+        ∙ keeps (side signal low high bits) bits (side_earlier signal low high bits (length nodes) (omega (arith, w.1)) (omega (arith, w.2)))
+        ∙ sym (label_split nodes old.tree at bits signal low high there)
+
 -- the split of a tree and a later one
-pub split_of : (signal at : ℕ) (low high now : List Branch) → 0 < length low → at ≡ length low - 1 → KeepsLabels low high → ((bits : ℕ) → label_of now bits ≡ side signal (label_at high at bits) (label_of high bits) bits) → IsSplitOf signal low high now
+pub split_of : (signal at : ℕ) (low high now : List Branch) → 0 < length low → at ≡ length low - 1 → KeepsLabels low high → ((bits : ℕ) → label_of now bits ≡ side signal (label_at high at bits) (label_of high bits) bits) → IsSplitOf signal (label_of low) (label_of high) (label_of now)
 split_of signal at low high now some e keeps h bits =
     h bits
     ∙ ap (λ p. side signal (label_at high p bits) (label_of high bits) bits) e
@@ -112,6 +138,11 @@ pub label_below : (width count : ℕ) (nodes : List Branch) → width ≤ 64 →
 label_below width count nodes le h some bits =
     let t = tree_over width count nodes le h some in
     label_of-all (λ l. l < count) nodes t.tree t.labels bits
+
+pub labels_below : (width count : ℕ) (nodes : List Branch) → width ≤ 64 → AreNodes width count nodes → (place : ℕ) → place < length nodes → (bits : ℕ) → label_at nodes place bits < count
+labels_below width count nodes le h place lt bits =
+    let t = tree_over width count nodes le h (omega arith) in
+    label_at-all (λ l. l < count) nodes t.tree t.labels bits place lt
 
 -- labels with their numbers
 got_mapped : (numbers : List ℕ) (nodes : List Branch) (place : ℕ) (node : Branch) → slice_get nodes place ≡ Some node → slice_get (map (with_number numbers) nodes) place ≡ Some (with_number numbers node)

@@ -9,14 +9,17 @@ pub mod Grown
 pub mod Letters
 pub mod Lists
 pub mod Makes
+pub mod Notes
 pub mod Numbering
 pub mod Pairs
 pub mod Powers
 pub mod RowNumbers
 pub mod RowSteps
 pub mod SameEffects
+pub mod Settled
 pub mod Sides
 pub mod Splits
 pub mod Steps
+pub mod Subtrees
 pub mod Thinned
 pub mod Unique

@@ -36,7 +36,7 @@ got_items (o ∷ lists) (suc c) x e = got_items lists c x e
 pub stored_options : (lists : List (Vec (ℕ × ℕ) Global)) (c : ℕ) (x : Vec (ℕ × ℕ) Global) (options : List (ℕ × ℕ)) → slice_get lists c ≡ Some x → pointwise (λ (p q : ℕ × ℕ). eqb p.0 q.0 && eqb p.1 q.1) options x.items ≡ true → items_at lists c ≡ options
 stored_options lists c x options e t = got_items lists c x e ∙ sym ((slice_eq-Decides pair_decides options x.items _ refl).0 t)
 
-bools_decide : (m n : Bool) → Decides (beq m n) (m ≡ n)
+pub bools_decide : (m n : Bool) → Decides (beq m n) (m ≡ n)
 bools_decide false false = (λ e. refl, λ e. refl)
 bools_decide false true = (λ e. absurd (cc), λ e. absurd (cc))
 bools_decide true false = (λ e. absurd (cc), λ e. absurd (cc))

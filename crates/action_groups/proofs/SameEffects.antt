@@ -29,7 +29,7 @@ steps_at count (e ∷ effects) (suc l) lt h = steps_at count effects l (omega ar
 
 module _
     (order : Order) (a : AutomatonData) (nodes : List Branch) (effects : List (Vec (ℕ × ℕ × Bool) Global)) (ways : List Way)
-    (signals : a.signals ≡ order.inputs + order.outputs) (edges : HasEdges a ways) (exact : HasEffects order 0 nodes effects ways)
+    (signals : a.signals ≡ order.inputs + order.outputs) (edges : HasEdges a ways) (exact : HasEffects order 0 (label_of nodes) effects ways)
     (steps : All (λ e. AreSteps (length a.states) e.items) effects) (below : (bits : ℕ) → label_of nodes bits < length effects) where
   letter_numbers : (x bits q r : ℕ) → IsLetterOf order.inputs order.outputs order.inputs_first x bits → q < length a.states → steps_number (items_at effects (label_of nodes bits)) q r ≡ edge_number (edges_at a q) x r
   letter_numbers x bits q r letter lt =

@@ -67,6 +67,22 @@ at_most (x ∷ xs) q p m h =
     both : (a b : ℕ) → a ≤ m → b ≤ m → max a b ≤ m
     both a b h k = omega arith
 
+-- lists of the same edges do the same
+pub same_edges : (order : Order) (place : ℕ) (ways others : List Way) → All (Contains others) ways → All (Contains ways) others → AllowSame order place ways others
+same_edges order place ways others within each bits q p = both _ _ (below ways others within) (below others ways each)
+  where
+    allowed : Way → Bool
+    allowed w = allows_from order (order.inputs + order.outputs - place) place bits w.edge.cube
+
+    both : (a b : ℕ) → a ≤ b → b ≤ a → a ≡ b
+    both a b l k = omega arith
+
+    below : (xs ys : List Way) → All (Contains ys) xs → steps_number (map step_of (allowing order place bits xs)) q p ≤ steps_number (map step_of (allowing order place bits ys)) q p
+    below xs ys h =
+        at_most (allowing order place bits xs) q p _ (λ w c.
+        let f = unfiltered allowed xs w c in
+        counted (allowing order place bits ys) w q p (filtered allowed ys w (All-contains (Contains ys) xs w h f.0) f.1))
+
 -- a cube that cares for no signal allows each value
 allows_all : (order : Order) (n place bits : ℕ) (c : Cube) → cares_not order n place c ≡ true → allows_from order n place bits c ≡ true
 allows_all order zero place bits c h = refl

@@ -5,6 +5,7 @@ pub mod Labels
 pub mod Listing
 pub mod Lists
 pub mod Made
+pub mod Memo
 pub mod Numbers
 pub mod Options
 pub mod Part
@@ -15,4 +16,5 @@ pub mod Rows
 pub mod Sides
 pub mod Tests
 pub mod Thinned
+pub mod Trees
 pub mod Way

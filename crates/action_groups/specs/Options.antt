@@ -2,8 +2,6 @@
 use Rattle.std.specs.Prelude.{◌≡◌, ℕ, ◌+◌, ◌*◌, ◌^◌, ◌<◌, ◌≤◌, List, Vec}
 use Rattle.std.specs.List.{All, AllPairs, Contains}
 use Rattle.std.specs.declared.alloc.Global.{Global}
-use Rattle.word_core.specs.declared.branches.Branch.{Branch}
-use Rattle.word_core.specs.Tree.{label_of}
 use Rattle.action_groups.specs.Labels.{HasAtMost}
 use Rattle.action_groups.specs.Lists.{items_at}
 
@@ -15,11 +13,11 @@ pub record IsOnce (pairs kept : List (ℕ × ℕ)) : Type 0 where
 
 -- the options of a first valuation: each has the label of its letter, the label of each letter is that of an option
 -- whose valuation is at most the letter's, and the valuations ascend
-pub record AreOptionsOf (width first : ℕ) (letters : List Branch) (options : List (ℕ × ℕ)) : Type 0 where
-  pub each : All (λ p. label_of letters (first + p.0 * 2 ^ width) ≡ p.1) options
-  pub all : (second : ℕ) → HasAtMost options (label_of letters (first + second * 2 ^ width)) second
+pub record AreOptionsOf (width first : ℕ) (letters : ℕ → ℕ) (options : List (ℕ × ℕ)) : Type 0 where
+  pub each : All (λ p. letters (first + p.0 * 2 ^ width) ≡ p.1) options
+  pub all : (second : ℕ) → HasAtMost options (letters (first + second * 2 ^ width)) second
   pub rising : AllPairs (λ p q. (p.0 < q.0) × (p.1 ≡ q.1 → ⊥)) options
 
 -- the list that a first valuation leads to has its options
-abbrev pub HasOptions : ℕ → List Branch → List Branch → List (Vec (ℕ × ℕ) Global) → Type 0
-HasOptions width letters firsts lists = (first : ℕ) → first < 2 ^ width → AreOptionsOf width first letters (items_at lists (label_of firsts first))
+abbrev pub HasOptions : ℕ → (ℕ → ℕ) → (ℕ → ℕ) → List (Vec (ℕ × ℕ) Global) → Type 0
+HasOptions width letters firsts lists = (first : ℕ) → first < 2 ^ width → AreOptionsOf width first letters (items_at lists (firsts first))

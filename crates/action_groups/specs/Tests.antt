@@ -4,8 +4,6 @@ use Rattle.std.specs.Int.{bit_at}
 use Rattle.std.specs.List.{filter}
 use Rattle.std.specs.declared.alloc.Global.{Global}
 use Rattle.word_core.specs.declared.cubes.Cube.{Cube}
-use Rattle.word_core.specs.declared.branches.Branch.{Branch}
-use Rattle.word_core.specs.Tree.{label_of}
 use Rattle.action_groups.specs.declared.orders.Order.{Order}
 use Rattle.action_groups.specs.declared.ways.Way.{Way}
 use Rattle.action_groups.specs.Lists.{items_at}
@@ -32,10 +30,10 @@ allows_from order (suc n) place bits c =
 abbrev pub allowing : Order → ℕ → ℕ → List Way → List Way
 allowing order place bits = filter (λ w. allows_from order (order.inputs + order.outputs - place) place bits w.edge.cube)
 
--- a tree over the signals from a place on leads to what the edges that allow the valuation do
-abbrev pub HasEffects : Order → ℕ → List Branch → List (Vec (ℕ × ℕ × Bool) Global) → List Way → Type 0
-HasEffects order place nodes effects ways =
-    (bits q p : ℕ) → steps_number (items_at effects (label_of nodes bits)) q p ≡ steps_number (map step_of (allowing order place bits ways)) q p
+-- the labels of a tree over the signals from a place on lead to what the edges that allow the valuation do
+abbrev pub HasEffects : Order → ℕ → (ℕ → ℕ) → List (Vec (ℕ × ℕ × Bool) Global) → List Way → Type 0
+HasEffects order place labels effects ways =
+    (bits q p : ℕ) → steps_number (items_at effects (labels bits)) q p ≡ steps_number (map step_of (allowing order place bits ways)) q p
 
 -- a letter and the valuation of its two sides have the same bits, at signals and at places
 pub record IsLetterOf (inputs outputs : ℕ) (first : Bool) (x bits : ℕ) : Type 0 where

@@ -1,11 +1,29 @@
 -- Edges that another one makes needless, where the signals before a place are decided.
-use Rattle.std.specs.Prelude.{◌≡◌, ℕ, zero, suc, ◌+◌, ◌-◌, ◌&&◌, Bool, true, false, List, map, nat_eq}
-use Rattle.std.specs.Int.{bit_at}
+use Rattle.std.specs.Prelude.{◌≡◌, ℕ, zero, suc, ◌+◌, ◌-◌, ◌*◌, ◌%◌, ◌^◌, bit_and, ◌&&◌, Bool, true, false, List, map, nat_eq}
+use Rattle.std.specs.Int.{bit_at, bit_not, w64}
 use Rattle.word_core.specs.declared.cubes.Cube.{Cube}
 use Rattle.action_groups.specs.declared.orders.Order.{Order}
 use Rattle.action_groups.specs.declared.ways.Way.{Way}
 use Rattle.action_groups.specs.Numbers.{HasSameNumbers, step_of}
 use Rattle.action_groups.specs.Tests.{allowing, signal_of}
+
+-- a number of 64 bits without one of them
+abbrev pub without_bit : ℕ → ℕ → ℕ
+without_bit signal bits = bit_and bits (bit_not w64 (1 * 2 ^ signal % 2 ^ 64))
+
+-- the edge with a cube that doesn't care for a signal
+abbrev pub decided_way : ℕ → Way → Way
+decided_way signal w = record {
+  from = w.from;
+  edge = record {
+    cube = record {
+      care = without_bit signal w.edge.cube.care;
+      want = without_bit signal w.edge.cube.want;
+    };
+    next = w.edge.next;
+    marked = w.edge.marked;
+  };
+}
 
 -- a cube cares for none of so many signals from a place on
 abbrev pub cares_not : Order → ℕ → ℕ → Cube → Bool

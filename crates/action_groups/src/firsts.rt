@@ -1,7 +1,7 @@
 //! The valuations of the side that moves first, split until the letters are.
 
 ghost use Rattle.std.specs.Prelude.{◌≡◌, ◌<◌, ◌≤◌, ◌+◌, ◌-◌, ◌^◌, ℕ, length, vec_len, IfOk, OnOk};
-ghost use Rattle.std.specs.List.{All, AllPairs};
+ghost use Rattle.std.specs.List.{All};
 ghost use Rattle.word_core.specs.Tree.{label_of};
 ghost use Rattle.action_groups.specs.Labels.{KeepsLabels, IsLabelled};
 ghost use Rattle.action_groups.specs.Tests.{HasEffects};
@@ -9,57 +9,34 @@ ghost use Rattle.action_groups.specs.Lists.{items_at, KeepsLists};
 ghost use Rattle.action_groups.specs.Options.{IsOnce, HasOptions};
 ghost use Rattle.action_groups.specs.Part.{AreNodes, ArePairs};
 ghost use Rattle.action_groups.specs.Sides.{leads};
+ghost use Rattle.action_groups.specs.Trees.{IsRestTree, IsFirstTree};
 ghost use Rattle.action_groups.specs.First.{AreOptions};
 ghost use Rattle.action_groups.specs.Way.{IsWay, AreSteps};
 
 use crate::groups::{Letters, split_rest};
+use crate::leasts::least_of_each;
+use crate::memos::Memo;
 use crate::orders::Order;
-use crate::parts::{joined, lifted, push_leaf, push_split};
+use crate::parts::{joined, lifted, push_copy, push_leaf, push_split};
 use crate::thinnings::part_of;
 use crate::ways::{Way, is_tested};
 use indexmap::IndexSet;
 use std::alloc::{AllocError, Global};
 use word_core::Branch;
 
-/// The nodes of the tree of first valuations, and the lists of options that are its labels' meanings.
+/// The nodes of the tree of first valuations, the lists of options that are its labels' meanings, and the trees that were
+/// made of edges that remain at places before the second side's signals.
 #[derive(Drop)]
 pub struct Firsts {
     pub nodes: Vec<Branch>,
     pub options: IndexSet<Vec<(u64, u64)>>,
-}
-
-/// Of the pairs of each number, which stand in the order of their valuations, the first.
-fn first_of_each(
-    alloc: Global,
-    pairs: &[(u64, u64)],
-    width: u32,
-    count: usize,
-) -> Result<Vec<(u64, u64)>, AllocError>
-    requires pairs { ArePairs width count pairs.now }
-    requires some { 0 < length pairs.now }
-    requires sorted { AllPairs (λ p q. p.0 ≤ q.0) pairs.now }
-    ensures pairs { IfOk result (λ v. ArePairs width count v.items) }
-    ensures some { IfOk result (λ v. 0 < length v.items) }
-    ensures once { IfOk result (λ v. IsOnce pairs.now v.items) }
-{
-    let mut seen = vec![in alloc; false; count]?;
-    let mut kept = Vec::new(alloc);
-    kept.push(pairs[0])?;
-    seen[pairs[0].1 as usize] = true;
-    for i in 1..pairs.len() {
-        let pair = pairs[i];
-        if !seen[pair.1 as usize] {
-            seen[pair.1 as usize] = true;
-            kept.push(pair)?;
-        }
-    }
-    Ok(kept)
+    pub memo: Memo,
 }
 
 /// Puts a leaf for the first valuations with these options. Its label is given back.
 fn put_options(
     alloc: Global,
-    mut pairs: Vec<(u64, u64)>,
+    pairs: Vec<(u64, u64)>,
     width: u32,
     second: u32,
     count: usize,
@@ -77,11 +54,11 @@ fn put_options(
     ensures label { IfOk result (λ l. l < length firsts.new.options.keys) }
     ensures kept { OnOk result (KeepsLabels firsts.old.nodes.items firsts.new.nodes.items) }
     ensures lists { OnOk result (KeepsLists firsts.old.options.keys firsts.new.options.keys) }
+    ensures memo { firsts.new.memo ≡ firsts.old.memo }
     ensures leaf { IfOk result (λ l. (bits : ℕ) → label_of firsts.new.nodes.items bits ≡ l) }
     ensures once { IfOk result (λ l. IsOnce pairs.items (items_at firsts.new.options.keys l)) }
 {
-    pairs.sort()?;
-    let options = first_of_each(alloc, &pairs, second, count)?;
+    let options = least_of_each(alloc, pairs, second, count)?;
     let (label, _) = firsts.options.insert_full(options)?;
     push_leaf(&mut firsts.nodes, label as u64, width, firsts.options.len())?;
     Ok(label as u64)
@@ -105,6 +82,8 @@ pub fn split_first(
     requires effects { All (λ e. AreSteps count e.items) letters.old.effects.keys }
     requires nodes { AreNodes (leads order) (length firsts.old.options.keys) firsts.old.nodes.items }
     requires options { AreOptions (order.inputs + order.outputs - leads order) (length letters.old.effects.keys) firsts.old.options.keys }
+    requires letter_trees { All (IsRestTree order letters.old.nodes.items letters.old.effects.keys) letters.old.memo }
+    requires trees { All (IsFirstTree order letters.old.nodes.items letters.old.effects.keys firsts.old.nodes.items firsts.old.options.keys) firsts.old.memo }
     ensures letter_nodes { OnOk result (AreNodes (order.inputs + order.outputs) (length letters.new.effects.keys) letters.new.nodes.items) }
     ensures effects { OnOk result (All (λ e. AreSteps count e.items) letters.new.effects.keys) }
     ensures letters_grow { OnOk result (length letters.old.nodes.items < length letters.new.nodes.items) }
@@ -119,9 +98,11 @@ pub fn split_first(
     ensures kept { OnOk result (KeepsLabels firsts.old.nodes.items firsts.new.nodes.items) }
     ensures lists { OnOk result (KeepsLists firsts.old.options.keys firsts.new.options.keys) }
     ensures effect_lists { OnOk result (KeepsLists letters.old.effects.keys letters.new.effects.keys) }
-    ensures exact { OnOk result (HasEffects order place letters.new.nodes.items letters.new.effects.keys ways.now) }
-    ensures chosen { OnOk result (HasOptions (leads order) letters.new.nodes.items firsts.new.nodes.items firsts.new.options.keys) }
-    ensures labelled { IfOk result (λ v. IsLabelled place firsts.new.nodes.items v.items) }
+    ensures exact { OnOk result (HasEffects order place (label_of letters.new.nodes.items) letters.new.effects.keys ways.now) }
+    ensures chosen { OnOk result (HasOptions (leads order) (label_of letters.new.nodes.items) (label_of firsts.new.nodes.items) firsts.new.options.keys) }
+    ensures labelled { IfOk result (λ v. IsLabelled place (label_of firsts.new.nodes.items) v.items) }
+    ensures letter_trees { OnOk result (All (IsRestTree order letters.new.nodes.items letters.new.effects.keys) letters.new.memo) }
+    ensures trees { OnOk result (All (IsFirstTree order letters.new.nodes.items letters.new.effects.keys firsts.new.nodes.items firsts.new.options.keys) firsts.new.memo) }
 {
     let whole = order.width();
     let width = order.leads();
@@ -137,6 +118,16 @@ pub fn split_first(
         let rest = split_first(alloc, ways, count, order, place + 1, letters, firsts)?;
         return Ok(lifted(alloc, &rest, left, firsts.options.len())?);
     }
+    if let Some(tree) = firsts.memo.get(alloc, ways, place)? {
+        push_copy(
+            &mut letters.nodes,
+            tree.letter,
+            whole,
+            letters.effects.len(),
+        )?;
+        push_copy(&mut firsts.nodes, tree.first, width, firsts.options.len())?;
+        return Ok(tree.pairs);
+    }
     let unset = part_of(alloc, ways, order, place, 0, count)?;
     let low = split_first(alloc, &unset, count, order, place + 1, letters, firsts)?;
     let letter_at = letters.nodes.len() - 1;
@@ -146,5 +137,8 @@ pub fn split_first(
     let actions = letters.effects.len();
     push_split(&mut letters.nodes, place, letter_at, whole, actions)?;
     push_split(&mut firsts.nodes, place, at, width, firsts.options.len())?;
-    Ok(joined(alloc, &low, &high, left, firsts.options.len())?)
+    let pairs = joined(alloc, &low, &high, left, firsts.options.len())?;
+    let (letter, first) = (letters.nodes.len() - 1, firsts.nodes.len() - 1);
+    firsts.memo.note(alloc, ways, place, letter, first, &pairs)?;
+    Ok(pairs)
 }

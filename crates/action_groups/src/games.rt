@@ -24,6 +24,7 @@ ghost use Rattle.game_form.specs.Game.{lanes};
 use crate::firsts::{Firsts, split_first};
 use crate::groups::Letters;
 use crate::least_letters::met_letters;
+use crate::memos::Memo;
 use crate::orders::Order;
 use crate::ranks::{Ranked, rank, relabelled};
 use crate::rows::action_of;
@@ -117,10 +118,12 @@ fn parts_of(alloc: Global, a: &Automaton, order: Order) -> Result<Parts, AllocEr
     let mut letters = Letters {
         nodes: Vec::new(alloc),
         effects: IndexSet::new(alloc),
+        memo: Memo::new(alloc),
     };
     let mut firsts = Firsts {
         nodes: Vec::new(alloc),
         options: IndexSet::new(alloc),
+        memo: Memo::new(alloc),
     };
     let ways = ways_of(alloc, a)?;
     let pairs = split_first(alloc, &ways, count, order, 0, &mut letters, &mut firsts)?;
@@ -145,15 +148,15 @@ fn numbered(
     requires options { AreOptions (order.inputs + order.outputs - leads order) (length letters.effects.keys) firsts.options.keys }
     requires pairs { ArePairs (leads order) (length firsts.options.keys) pairs.items }
     requires some { 0 < length pairs.items }
-    requires labelled { IsLabelled 0 firsts.nodes.items pairs.items }
-    requires chosen { HasOptions (leads order) letters.nodes.items firsts.nodes.items firsts.options.keys }
+    requires labelled { IsLabelled 0 (label_of firsts.nodes.items) pairs.items }
+    requires chosen { HasOptions (leads order) (label_of letters.nodes.items) (label_of firsts.nodes.items) firsts.options.keys }
     ensures rows { IfOk result (HasEffectRows count letters.nodes.items letters.effects.keys) }
     ensures parts { IfOk result (AreParts count (order.inputs + order.outputs) (leads order)) }
     ensures letters { IfOk result (HasLetterParts (leads order)) }
     ensures same { IfOk result (HasSameLabels letters.nodes.items letters.effects.keys) }
     ensures numbered { IfOk result (AreNumbered order.inputs order.outputs order.inputs_first) }
 {
-    let Firsts { nodes, options } = firsts;
+    let Firsts { nodes, options, .. } = firsts;
     let whole = order.width();
     let width = order.leads();
     let effects = letters.effects.len();

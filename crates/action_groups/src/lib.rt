@@ -6,6 +6,8 @@ mod games;
 mod groups;
 mod laws;
 mod least_letters;
+mod leasts;
+mod memos;
 mod orders;
 mod parts;
 mod ranks;

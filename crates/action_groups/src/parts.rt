@@ -5,8 +5,10 @@ ghost use Rattle.std.specs.List.{All};
 ghost use Rattle.std.specs.Prelude.{◌++◌};
 ghost use Rattle.word_core.specs.Tree.{label_at, label_of, side};
 ghost use Rattle.action_groups.specs.Labels.{KeepsLabels, shifted};
+ghost use Rattle.action_groups.specs.Options.{IsOnce};
 ghost use Rattle.action_groups.specs.Part.{AreNodes, ArePairs};
 
+use crate::leasts::least_of_each;
 use std::alloc::{AllocError, Global};
 use word_core::Branch;
 
@@ -55,6 +57,26 @@ pub fn push_split(
     Ok(())
 }
 
+/// Puts a copy of an earlier node behind the nodes.
+pub fn push_copy(
+    nodes: &mut Vec<Branch>,
+    at: usize,
+    width: u32,
+    count: usize,
+) -> Result<(), AllocError>
+    requires narrow { width ≤ 64 }
+    requires at { at < length nodes.old.items }
+    requires nodes { AreNodes width count nodes.old.items }
+    ensures nodes { AreNodes width count nodes.new.items }
+    ensures kept { OnOk result (KeepsLabels nodes.old.items nodes.new.items) }
+    ensures copy { OnOk result ((bits : ℕ) → label_of nodes.new.items bits ≡ label_at nodes.old.items at bits) }
+    ensures grows { OnOk result (length nodes.new.items ≡ length nodes.old.items + 1) }
+{
+    let node = nodes[at];
+    nodes.push(node)?;
+    Ok(())
+}
+
 /// Adds the pairs of a part, with the value of a signal before the other signals.
 #[tactic(auto, using(crate::proofs::Powers::power_more, crate::proofs::Powers::power_small))]
 pub fn add_part(
@@ -96,7 +118,8 @@ pub fn lifted(
     Ok(pairs)
 }
 
-/// The pairs of two parts, with the values 0 and 1 of the signal that chooses between them.
+/// The pairs of two parts, with the values 0 and 1 of the signal that chooses between them: of each number that with the
+/// least valuation.
 pub fn joined(
     alloc: Global,
     low: &[(u64, u64)],
@@ -107,12 +130,13 @@ pub fn joined(
     requires rest { rest < 40 }
     requires low { ArePairs rest count low.now }
     requires high { ArePairs rest count high.now }
+    requires some { 0 < length low.now }
     ensures pairs { IfOk result (λ v. ArePairs (rest + 1) count v.items) }
-    ensures len { IfOk result (λ v. length v.items ≡ length low.now + length high.now) }
-    ensures value { IfOk result (λ v. v.items ≡ shifted 0 low.now ++ shifted 1 high.now) }
+    ensures some { IfOk result (λ v. 0 < length v.items) }
+    ensures once { IfOk result (λ v. IsOnce (shifted 0 low.now ++ shifted 1 high.now) v.items) }
 {
     let mut pairs = Vec::new(alloc);
     add_part(&mut pairs, low, 0, rest, count)?;
     add_part(&mut pairs, high, 1, rest, count)?;
-    Ok(pairs)
+    least_of_each(alloc, pairs, rest + 1, count)
 }

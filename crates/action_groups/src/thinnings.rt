@@ -1,18 +1,19 @@
 //! Edges without those that another one makes needless.
 
-ghost use Rattle.std.specs.Prelude.{◌≡◌, ◌<◌, ◌≤◌, ◌+◌, true, length, IfOk};
-ghost use Rattle.std.specs.List.{All, filter};
+ghost use Rattle.std.specs.Prelude.{◌≡◌, ◌<◌, ◌≤◌, ◌+◌, true, length, map, IfOk};
+ghost use Rattle.std.specs.List.{All, Contains, filter};
 ghost use Rattle.action_groups.specs.Tests.{allows, signal_of};
-ghost use Rattle.action_groups.specs.Thinned.{AllowSame, GivesWay, Replaces, cares_for_none};
+ghost use Rattle.action_groups.specs.Thinned.{AllowSame, GivesWay, Replaces, cares_for_none, decided_way};
 ghost use Rattle.action_groups.specs.Way.{IsWay};
 
 use crate::orders::Order;
-use crate::ways::{Way, bit_of, restricted};
+use crate::ways::{Way, bit_of, decided, restricted};
+use indexmap::IndexSet;
 use std::alloc::{AllocError, Global};
 use word_core::Cube;
 
-/// The edges that hold letters with this value of the signal at a place. An edge is left out where another one between
-/// the same states cares for no later signal and is marked if the edge is.
+/// The edges that hold letters with this value of the signal at a place, each once, without what they ask of the signal.
+/// An edge is left out where another one between the same states cares for no later signal and is marked if the edge is.
 pub fn part_of(
     alloc: Global,
     ways: &[Way],
@@ -26,8 +27,25 @@ pub fn part_of(
     ensures ways { IfOk result (λ v. All (IsWay count) v.items) }
     ensures same { IfOk result (λ v. AllowSame order (place + 1) v.items (filter (λ w. allows w.edge.cube (signal_of order place) value) ways.now)) }
 {
-    let part = restricted(alloc, ways, order.signal(place), value, count)?;
-    thinned(alloc, &part, order, place + 1, count)
+    let signal = order.signal(place);
+    let part = restricted(alloc, ways, signal, value, count)?;
+    let once = settled(alloc, &part, signal, count)?;
+    thinned(alloc, &once, order, place + 1, count)
+}
+
+/// The edges as they are where the signal is decided, each once.
+fn settled(alloc: Global, ways: &[Way], signal: u32, count: usize) -> Result<Vec<Way>, AllocError>
+    requires signal { signal < 64 }
+    requires ways { All (IsWay count) ways.now }
+    ensures ways { IfOk result (λ v. All (IsWay count) v.items) }
+    ensures within { IfOk result (λ v. All (Contains (map (decided_way signal) ways.now)) v.items) }
+    ensures each { IfOk result (λ v. All (Contains v.items) (map (decided_way signal) ways.now)) }
+{
+    let mut seen = IndexSet::new(alloc);
+    for way in ways {
+        seen.insert(decided(*way, signal))?;
+    }
+    Ok(seen.as_slice().to_vec(alloc)?)
 }
 
 /// The edges without those that give way to another one, where the signals before the place are decided.

@@ -7,13 +7,14 @@ ghost use Rattle.std.specs.Int.{bit_at};
 ghost use Rattle.std.specs.List.{All, filter};
 ghost use Rattle.action_groups.specs.Numbers.{HasSameNumbers, step_of};
 ghost use Rattle.action_groups.specs.Tests.{allows};
+ghost use Rattle.action_groups.specs.Thinned.{decided_way};
 ghost use Rattle.action_groups.specs.Way.{IsWay, IsStep, IsNotAfter, AreSteps};
 
 use std::alloc::{AllocError, Global};
 use word_core::{Automaton, Cube, Edge};
 
 /// An edge, and the state that it leaves.
-#[derive(Clone, Copy)]
+#[derive(Clone, Copy, PartialEq, Eq, Hash)]
 pub struct Way {
     pub from: u32,
     pub edge: Edge,
@@ -74,6 +75,25 @@ pub fn is_tested(ways: &[Way], signal: u32) -> bool
         }
     }
     false
+}
+
+/// The edge, as it is where the signal is decided: it doesn't care for it.
+pub fn decided(way: Way, signal: u32) -> Way
+    requires { signal < 64 }
+    ensures { result ≡ decided_way signal way }
+{
+    let others = !(1 << signal);
+    Way {
+        from: way.from,
+        edge: Edge {
+            cube: Cube {
+                care: way.edge.cube.care & others,
+                want: way.edge.cube.want & others,
+            },
+            next: way.edge.next,
+            marked: way.edge.marked,
+        },
+    }
 }
 
 /// The edges that hold letters with this value of the signal.

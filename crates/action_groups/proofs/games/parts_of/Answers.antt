@@ -4,6 +4,7 @@ use Rattle.std.specs.List.{All}
 use Rattle.std.specs.declared.alloc.Global.{Global}
 use Rattle.std.proofs.lemmas.Result.{IfOk-weaker}
 use Rattle.word_core.specs.declared.automata.Edge.{Edge}
+use Rattle.word_core.specs.Tree.{label_of}
 use Rattle.action_groups.specs.declared.games.Parts.{Parts}
 use Rattle.action_groups.specs.declared.ways.Way.{Way}
 use Rattle.action_groups.specs.Actions.{HasEffectRows, HasPartRows, HasSameLabels}
@@ -20,7 +21,7 @@ returns-clause-rows c =
     let nodes = c.split_first.new.letters.nodes.items in
     let effects = c.split_first.new.letters.effects.keys in
     let ways = c.in_ok-ways.ways.items in
-    let exact : HasEffects c.args.order 0 nodes effects ways = subst (λ (l : List Way). HasEffects c.args.order 0 nodes effects l) c.deref.ensures.value c.in_ok-pairs.ensures.exact in
+    let exact : HasEffects c.args.order 0 (label_of nodes) effects ways = subst (λ (l : List Way). HasEffects c.args.order 0 (label_of nodes) effects l) c.deref.ensures.value c.in_ok-pairs.ensures.exact in
     let P : Parts → Type 0 = HasEffectRows (length c.states-count.result.now) nodes effects in
     let Q : Parts → Type 0 = HasPartRows c.args.order.inputs c.args.order.outputs c.args.order.inputs_first c.args.a.now in
     let step : (p : Parts) → P p → Q p = λ p h.
@@ -34,7 +35,7 @@ returns-clause-same c =
     let nodes = c.split_first.new.letters.nodes.items in
     let effects = c.split_first.new.letters.effects.keys in
     let ways = c.in_ok-ways.ways.items in
-    let exact : HasEffects order 0 nodes effects ways = subst (λ (l : List Way). HasEffects order 0 nodes effects l) c.deref.ensures.value c.in_ok-pairs.ensures.exact in
+    let exact : HasEffects order 0 (label_of nodes) effects ways = subst (λ (l : List Way). HasEffects order 0 (label_of nodes) effects l) c.deref.ensures.value c.in_ok-pairs.ensures.exact in
     let steps : All (λ (e : Vec (ℕ × ℕ × Bool) Global). AreSteps (length c.args.a.now.states) e.items) effects =
     subst (λ (l : List (List Edge)). All (λ (e : Vec (ℕ × ℕ × Bool) Global). AreSteps (length l) e.items) effects) c.states-count.ensures.value c.in_ok-pairs.ensures.effects in
     let wide : order.inputs + order.outputs ≤ 64 = omega (arith, order.narrow) in

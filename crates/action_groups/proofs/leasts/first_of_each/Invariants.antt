@@ -1,7 +1,7 @@
 use Rattle.std.proofs.Common.{◌≡◌, ◌<◌, length}
 use Rattle.action_groups.specs.Part.{ArePairs}
 use Rattle.action_groups.proofs.Numbering.{AreKept}
-use Rattle.action_groups.proofs.firsts.first_of_each.Given as goal
+use Rattle.action_groups.proofs.leasts.first_of_each.Given as goal
 
 abbrev pub invariant-loop-i : goal.invariant-loop-i
 invariant-loop-i l =

@@ -7,8 +7,8 @@ use Rattle.std.proofs.lemmas.List.{length-set, length_push, length-replicate}
 use Rattle.std.proofs.lemmas.List.Elements.{All-push, All-cons, All-nil}
 use Rattle.action_groups.specs.Labels.{pair_at}
 use Rattle.action_groups.proofs.Numbering.{AreKept, kept_first, kept_more, kept_same, kept_all}
-use Rattle.action_groups.proofs.firsts.first_of_each.Goals as goal
-use Rattle.action_groups.proofs.firsts.first_of_each.Goals.{then-not-index+in_ok-push-2, else-not-index}
+use Rattle.action_groups.proofs.leasts.first_of_each.Goals as goal
+use Rattle.action_groups.proofs.leasts.first_of_each.Goals.{then-not-index+in_ok-push-2, else-not-index}
 
 pub loop-i-init : goal.loop-i-init
 loop-i-init c =
