@@ -1,4 +1,4 @@
-use Rattle.std.proofs.Common.{ℕ, ◌≤◌, ◌<◌, ◌+◌, Bool, List, length, subst, arith}
+use Rattle.std.proofs.Common.{ℕ, ◌≤◌, ◌<◌, ◌+◌, Bool, List, length, sym, subst, arith}
 use Rattle.std.specs.Prelude.{Vec}
 use Rattle.std.specs.List.{All}
 use Rattle.std.specs.declared.alloc.Global.{Global}
@@ -10,7 +10,10 @@ use Rattle.action_groups.specs.declared.ways.Way.{Way}
 use Rattle.action_groups.specs.Actions.{HasEffectRows, HasPartRows, HasSameLabels}
 use Rattle.action_groups.specs.Tests.{HasEffects}
 use Rattle.action_groups.specs.Parts.{HasSameActions}
+use Rattle.action_groups.specs.Memo.{Note}
+use Rattle.action_groups.specs.Trees.{IsRestTree, IsFirstTree}
 use Rattle.action_groups.specs.Way.{AreSteps}
+use Rattle.std.proofs.lemmas.List.Elements.{All-nil}
 use Rattle.action_groups.proofs.Acts.{part_rows}
 use Rattle.action_groups.proofs.Grown.{label_below}
 use Rattle.action_groups.proofs.SameEffects.{same_actions}
@@ -43,3 +46,13 @@ returns-clause-same c =
     let below = label_below (order.inputs + order.outputs) (length effects) nodes wide c.in_ok-pairs.ensures.letter_nodes some in
     IfOk-weaker _ (HasSameLabels nodes effects) (HasSameActions order.inputs order.outputs order.inputs_first c.args.a.now)
     (same_actions order c.args.a.now nodes effects ways c.requires.signals c.in_ok-ways.ensures.exact exact steps below) c.numbered.ensures.same
+
+pub split_first-requires-clause-letter_trees : goal.split_first-requires-clause-letter_trees
+split_first-requires-clause-letter_trees c =
+    let P : Note → Type 0 = IsRestTree c.args.order c.new.result.items c.new-2.result.keys in
+    subst (All P) (sym c.new-3.ensures) (All-nil P)
+
+pub split_first-requires-clause-trees : goal.split_first-requires-clause-trees
+split_first-requires-clause-trees c =
+    let P : Note → Type 0 = IsFirstTree c.args.order c.new.result.items c.new-2.result.keys c.new-4.result.items c.new-5.result.keys in
+    subst (All P) (sym c.new-6.ensures) (All-nil P)
