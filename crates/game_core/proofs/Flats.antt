@@ -311,3 +311,7 @@ tops_under lows over places flat within each u = same (under (picked lows places
         let a = each t (flat.within w.0 w.2) (flat.flat w.0 w.2) in
         list_any_at (λ x. at_or_below u x) (picked lows places) a.0 [] (let n = length_picked lows places in let k = a.1 in omega arith)
         (subst (λ (x : List ℤ). at_or_below u x ≡ true) (sym (picked_at lows places a.0 [] a.1 ∙ ap (low_at lows) a.2)) hit)
+
+-- only a place that points to itself is pointed to
+pub unpointed : (lows : List (List ℤ)) (over : List ℕ) (gone : ℕ) → IsFlat lows over → over_at over gone ≢ gone → (j : ℕ) → j < length lows → over_at over j ≢ gone
+unpointed lows over gone flat apart j lt e = apart (subst (λ i. over_at over i ≡ i) e (flat.flat j lt))

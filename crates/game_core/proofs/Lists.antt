@@ -1,9 +1,9 @@
 -- Lists of vectors that a downset makes.
-use Rattle.std.proofs.Common.{zero, suc, Bool, true, false, List, [], ◌∷◌, arith}
+use Rattle.std.proofs.Common.{ℕ, take, drop, zero, suc, Bool, true, false, List, [], ◌∷◌, arith}
 use Rattle.std.specs.Prelude.{not, if◌then◌else◌}
-use Rattle.std.specs.List.{All}
+use Rattle.std.specs.List.{All, insert}
 use Rattle.std.specs.Ordering.{is_lt}
-use Rattle.std.proofs.lemmas.List.Elements.{All-cons, All-filter}
+use Rattle.std.proofs.lemmas.List.Elements.{All-append, All-cons, All-drop, All-filter, All-take}
 use Rattle.std.specs.declared.cmp.Ordering.{Ordering}
 use Rattle.antichain_list.specs.Antichain.{covered, placed, added, without_below}
 
@@ -24,3 +24,6 @@ pub all_added : {X : Type 0} (P : X → Type 0) (below : X → X → Bool) (orde
 all_added P below order v xs p h =
     all_if (All P) (covered below v xs) xs (placed order v (without_below below v xs)) h
     (all_placed P order v (without_below below v xs) p (All-filter (λ e. not (below e v)) P xs h))
+
+pub all_inserted : {X : Type 0} (P : X → Type 0) (i : ℕ) (xs : List X) (x : X) → All P xs → P x → All P (insert xs i x)
+all_inserted P i xs x h p = All-append P (take i xs) (x ∷ drop i xs) (All-take P i xs h) (All-cons P x (drop i xs) p (All-drop P i xs h))

@@ -66,7 +66,7 @@ misses_rest vs i f lt e apart k d below = go (cases_lt k i)
         let size : length (remove vs i) + 1 ≡ length vs = length-remove vs i lt in
         subst P same (rw (get_or-remove_above vs i d k more lt) ((apart i (k + 1) d (omega arith) (omega arith)).0))
 
-all_removed : {X : Type 0} (P : X → Type 0) (xs : List X) (i : ℕ) → All P xs → All P (remove xs i)
+pub all_removed : {X : Type 0} (P : X → Type 0) (xs : List X) (i : ℕ) → All P xs → All P (remove xs i)
 all_removed P xs i h = All-append P (take i xs) (drop (suc i) xs) (All-take P i xs h) (All-drop P (suc i) xs h)
 
 -- the entries without one of them

@@ -5,8 +5,7 @@ use Rattle.std.specs.List.{All, AllPairs, Contains, filter, list_any, list_all}
 use Rattle.std.specs.declared.alloc.Global.{Global}
 use Rattle.std.proofs.lemmas.List.Elements.{All-nil, All-cons, All-filter}
 use Rattle.std.proofs.lemmas.List.Folds.{list_any-append, list_any_more, list_all_more, list_all_at, list_any_none, list_any_at}
-use Rattle.std.proofs.lemmas.List.Kept.{AllPairs-filter}
-use Rattle.std.proofs.lemmas.List.Quantifiers.{all_pairs_push}
+use Rattle.std.proofs.lemmas.List.Kept.{AllPairs-cons, AllPairs-filter}
 use Rattle.antichain_list.specs.Covering.{covered-trans, covered-without_below}
 use Rattle.counter_vec.specs.Counters.{at_or_below, lexicographic}
 use Rattle.counter_vec.specs.Orders.{counters_order, below-trans}
@@ -50,12 +49,8 @@ under_absorbs u v xs h = go (at_or_below u v) refl
     go true e = covered-trans at_or_below lexicographic counters_order u v xs e h ∙ sym (or_true (under xs u))
 
 -- a vector takes the place of those at or below it
-pub under_replaced : (u p : List ℤ) (xs : List (List ℤ)) → under (filter (λ x. not (at_or_below x p)) xs ++ p ∷ []) u ≡ (under xs u || at_or_below u p)
-under_replaced u p xs =
-    let rest : List (List ℤ) = filter (λ x. not (at_or_below x p)) xs in
-    under_push u rest p ∙ or_comm (under rest u) (at_or_below u p)
-    ∙ covered-without_below at_or_below lexicographic counters_order u p xs
-    ∙ or_comm (at_or_below u p) (under xs u)
+pub under_replaced : (u p : List ℤ) (xs : List (List ℤ)) → under (p ∷ filter (λ x. not (at_or_below x p)) xs) u ≡ (under xs u || at_or_below u p)
+under_replaced u p xs = covered-without_below at_or_below lexicographic counters_order u p xs ∙ or_comm (at_or_below u p) (under xs u)
 
 all_passed : (p : List ℤ → Bool) (xs : List (List ℤ)) → All (λ x. p x ≡ true) (filter p xs)
 all_passed p [] = All-nil (λ x. p x ≡ true)
@@ -69,13 +64,14 @@ not_true : (b : Bool) → not b ≡ true → b ≡ false
 not_true true h = cc
 not_true false h = refl
 
-pub apart_replaced : (p : List ℤ) (xs : List (List ℤ)) → AllPairs IsApart xs → Misses p xs → AllPairs IsApart (filter (λ x. not (at_or_below x p)) xs ++ p ∷ [])
+pub apart_replaced : (p : List ℤ) (xs : List (List ℤ)) → AllPairs IsApart xs → Misses p xs → AllPairs IsApart (p ∷ filter (λ x. not (at_or_below x p)) xs)
 apart_replaced p xs apart miss =
     let keep : List ℤ → Bool = λ x. not (at_or_below x p) in
     let passed : All (λ x. keep x ≡ true) (filter keep xs) = all_passed keep xs in
     let missed : Misses p (filter keep xs) = All-filter keep (λ e. at_or_below p e ≡ false) xs miss in
-    all_pairs_push IsApart (filter keep xs) p (AllPairs-filter IsApart keep xs apart)
-    (λ k d lt. (not_true _ (passed k d lt), missed k d lt))
+    AllPairs-cons IsApart p (filter keep xs)
+    (λ k d lt. (missed k d lt, not_true _ (passed k d lt)))
+    (AllPairs-filter IsApart keep xs apart)
 
 pub apart_filtered : (p : List ℤ) (xs : List (List ℤ)) → AllPairs IsApart xs → AllPairs IsApart (filter (λ x. not (at_or_below x p)) xs)
 apart_filtered p xs apart = AllPairs-filter IsApart (λ x. not (at_or_below x p)) xs apart

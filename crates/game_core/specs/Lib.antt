@@ -15,4 +15,5 @@ pub mod Rounds
 pub mod Solved
 pub mod Start
 pub mod Tried
+pub mod Turns
 pub mod World

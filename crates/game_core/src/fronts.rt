@@ -1,6 +1,6 @@
 //! The maximal vectors that are still possible, and what is known of each.
 
-ghost use Rattle.std.specs.Prelude.{◌≡◌, ◌<◌, ◌≤◌, ◌+◌, ℕ, true, length, vec_len, IfOk, IfSome, IfNone, false, slice_index_or};
+ghost use Rattle.std.specs.Prelude.{◌≡◌, ◌≢◌, ◌<◌, ◌≤◌, ◌+◌, ◌-◌, ℕ, if◌then◌else◌, nat_eq, nat_lt, true, length, vec_len, IfOk, IfSome, IfNone, false, slice_index_or};
 ghost use Rattle.std.specs.List.{All};
 ghost use Rattle.counter_vec.specs.Counters.{at_or_below};
 ghost use Rattle.game_core.specs.Front.{Misses, under};
@@ -15,9 +15,9 @@ use std::alloc::{AllocError, Global};
 pub struct Note {
     /// The sum of its numbers.
     pub sum: i64,
-    /// For kind second, for each class the place of an entry that answers it; for kind first, for each option of
-    /// the class that works the place of an entry that answers it.
-    pub answers: Vec<Option<usize>>,
+    /// For kind second, for each class the entry that answers it; for kind first, for each option of the class that
+    /// works the entry that answers it: its place and 1, or 0 where none is known.
+    pub answers: Vec<u32>,
 }
 
 /// The sum of the numbers of a vector.
@@ -30,14 +30,31 @@ pub fn sum_of(v: &Counters) -> i64 {
 }
 
 /// So many answers, none of which is known.
-pub fn no_answers(alloc: Global, count: usize) -> Result<Vec<Option<usize>>, AllocError>
+pub fn no_answers(alloc: Global, count: usize) -> Result<Vec<u32>, AllocError>
     ensures { IfOk result (λ v. vec_len v ≡ count) }
 {
-    let mut answers = Vec::with_capacity(alloc, count)?;
-    for _ in 0..count {
-        answers.push(None)?;
+    vec![in alloc; 0u32; count]
+}
+
+/// The entry of a place, as it is noted. One that is too great to be noted isn't known.
+pub fn noted(place: usize) -> u32
+    ensures { result ≢ 0 → result ≡ place + 1 }
+{
+    match u32::try_from(place) {
+        Ok(small) => small.wrapping_add(1),
+        Err(_) => 0,
     }
-    Ok(answers)
+}
+
+/// The place of the entry that is noted.
+pub fn place_noted(answer: u32) -> Option<usize>
+    ensures some { IfSome result (λ place. place + 1 ≡ answer) }
+    ensures none { IfNone result (answer ≡ 0) }
+{
+    if answer == 0 {
+        return None;
+    }
+    Some(answer as usize - 1)
 }
 
 /// So many columns, which are empty.
@@ -52,7 +69,7 @@ pub fn no_columns(alloc: Global, count: usize) -> Result<Vec<Column>, AllocError
     Ok(columns)
 }
 
-/// The entry to look at next: the one of least sum, the latest among equals.
+/// The entry to look at next: the one of least sum, the earliest among equals.
 pub fn next_entry(pending: &[bool], notes: &[Note]) -> Option<usize>
     requires { length notes.now ≡ length pending.now }
     ensures { IfSome result (λ i. (i < length pending.now) × (slice_index_or pending.now i false ≡ true)) }
@@ -66,31 +83,39 @@ pub fn next_entry(pending: &[bool], notes: &[Note]) -> Option<usize>
     best
 }
 
-/// Whether entry `i` has no greater sum than the best one so far, if there is one.
+/// Whether entry `i` has a smaller sum than the best one so far, if there is one.
 fn comes_before(notes: &[Note], i: usize, best: Option<usize>) -> bool
     requires place { i < length notes.now }
     requires best { IfSome best (λ b. b < length notes.now) }
 {
     match best {
-        Some(b) => notes[i].sum <= notes[b].sum,
+        Some(b) => notes[i].sum < notes[b].sum,
         None => true,
     }
 }
 
 /// Forgets the place of an entry that is gone; those behind it have moved up. Says whether it was there.
-pub fn forget_place(answers: &mut [Option<usize>], gone: usize) -> bool {
+pub fn forget_place(answers: &mut [u32], gone: usize) -> bool {
+    let gone = noted(gone);
     let mut was_there = false;
     for answer in answers.iter_mut() {
-        if let Some(place) = *answer {
-            if place == gone {
-                was_there = true;
-                *answer = None;
-            } else if place > gone {
-                *answer = Some(place - 1);
-            }
-        }
+        was_there |= *answer == gone;
+        *answer = noted_without(*answer, gone);
     }
     was_there
+}
+
+/// What is noted of an answer when the entry `gone` is taken out.
+fn noted_without(answer: u32, gone: u32) -> u32
+    ensures { result ≡ (if nat_eq answer gone then 0 else (if nat_lt gone answer then answer - 1 else answer)) }
+{
+    if answer == gone {
+        0
+    } else if answer > gone {
+        answer - 1
+    } else {
+        answer
+    }
 }
 
 /// Whether an entry is at or above `v`.

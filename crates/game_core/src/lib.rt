@@ -22,6 +22,7 @@ mod solvers;
 mod starts;
 mod steps;
 mod tops;
+mod turns;
 mod worlds;
 
 pub use boards::{Board, Committed};

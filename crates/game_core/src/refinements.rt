@@ -39,7 +39,7 @@ fn add_maximal(kept: &mut Vec<Counters>, piece: Counters, f: &Counters) -> Resul
     add_missed(kept, piece, f)
 }
 
-/// Adds a piece of `f` to a list of maximal ones, none of which is at or above it.
+/// Adds a piece of `f` to the front of a list of maximal ones, none of which is at or above it.
 fn add_missed(kept: &mut Vec<Counters>, piece: Counters, f: &Counters) -> Result<(), AllocError>
     requires piece { IsPiece f.now piece }
     requires kept { All (IsPiece f.now) kept.old.items }
@@ -50,7 +50,7 @@ fn add_missed(kept: &mut Vec<Counters>, piece: Counters, f: &Counters) -> Result
     ensures under { OnOk result ((u : List ℤ) → under kept.new.items u ≡ (under kept.old.items u || at_or_below u piece)) }
 {
     drop_below(kept, &piece);
-    kept.push(piece)?;
+    kept.insert(0, piece)?;
     Ok(())
 }
 

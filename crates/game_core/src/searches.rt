@@ -10,7 +10,7 @@ ghost use Rattle.game_core.specs.Plan.{AreActions, NoneWorks};
 ghost use Rattle.game_core.specs.Columns.{AreColumns, AreFull, HaveGrown, IsColumn, MissesAll, column_at, some_covers, each_covers};
 
 use crate::columns::Column;
-use crate::fronts::find_cover;
+use crate::fronts::{find_cover, noted, place_noted};
 use antichain_list::Entry;
 use counter_vec::Counters;
 use game_form::Game;
@@ -156,7 +156,7 @@ fn find_for_option(
 }
 
 /// An entry that answers one of these options.
-fn find_answer(
+pub fn find_answer(
     alloc: Global,
     g: &Game,
     vectors: &[Counters],
@@ -181,7 +181,7 @@ fn find_answer(
     Ok(None)
 }
 
-/// An entry that answers one of these options: the known one, where it is trusted or does. None where no entry does.
+/// An entry that answers one of these options: the noted one, where it does. None where no entry does.
 pub fn answer_one(
     alloc: Global,
     g: &Game,
@@ -189,20 +189,19 @@ pub fn answer_one(
     columns: &mut [Column],
     f: &Counters,
     options: &[u64],
-    known: Option<usize>,
-    trusted: bool,
+    known: u32,
 ) -> Result<Option<usize>, AllocError>
     requires vectors { All (IsVector g.now) vectors.now }
     requires options { AreActions (length g.now.actions) options.now }
     requires entry { IsVector g.now f.now }
     requires columns { AreColumns g.now vectors.now columns.old }
     ensures columns { AreColumns g.now vectors.now columns.new }
-    ensures some { trusted ≡ false → IfOk result (λ o. IfSome o (λ _. list_any (action_works g.now vectors.now f.now) options.now ≡ true)) }
+    ensures some { IfOk result (λ o. IfSome o (λ _. list_any (action_works g.now vectors.now f.now) options.now ≡ true)) }
     ensures none { IfOk result (λ o. IfNone o (NoneWorks g.now vectors.now f.now options.now)) }
 {
     g.known();
-    if let Some(place) = known {
-        if trusted || is_answered(columns, f, options, place) {
+    if let Some(place) = place_noted(known) {
+        if is_answered(columns, f, options, place) {
             return Ok(Some(place));
         }
     }
@@ -214,7 +213,7 @@ pub fn answer_each(
     columns: &[Column],
     f: &Counters,
     options: &[u64],
-    answers: &mut [Option<usize>],
+    answers: &mut [u32],
 ) -> Option<u64>
     requires options { AreActions (length columns.now) options.now }
     requires room { length options.now ≤ length answers.old }
@@ -225,7 +224,7 @@ pub fn answer_each(
     for i in 0..options.len() {
         let action = options[i];
         match columns[action as usize].find(f) {
-            Some(place) => answers[i] = Some(place),
+            Some(place) => answers[i] = noted(place),
             None => return Some(action),
         }
     }

@@ -16,14 +16,16 @@ ghost use Rattle.game_core.specs.Plan.{IsPlan};
 ghost use Rattle.game_core.specs.Remains.{AreRemains};
 ghost use Rattle.game_core.specs.Solved.{Covers, IsLost, IsSettled, IsSolution};
 ghost use Rattle.game_core.specs.Start.{IsAttempt, IsStart};
+ghost use Rattle.game_core.specs.Turns.{AreTurns};
 
 use crate::columns::Column;
 use crate::commits::put_left;
 use crate::exchanges::{Entries, exchange};
 use crate::fronts::{Note, is_under, next_entry, no_columns};
-use crate::looks::look;
+use crate::looks::{look, look_trusting};
 use crate::plans::plan;
 use crate::starts::{entries_of, everything};
+use crate::turns::{Turn, turns_of};
 use antichain_list::{Downset, ListDownset};
 use counter_vec::Counters;
 use game_form::Game;
@@ -70,7 +72,7 @@ fn look_at_all(
     for place in 0..vectors.len() {
         let f = &vectors[place];
         let note = &mut notes[place];
-        if let Some(pieces) = look(alloc, g, plan, vectors, f, note, columns, false)? {
+        if let Some(pieces) = look(alloc, g, plan, vectors, f, note, columns)? {
             return Ok(Some(Found { place, pieces }));
         }
     }
@@ -79,8 +81,8 @@ fn look_at_all(
 
 /// Looks at entries until one has to be replaced. None where the player can answer one step from each.
 ///
-/// The marks say which entries are worth a look, at which what is known is trusted. At the end all are looked at once
-/// more, and each known answer is tried.
+/// The marks say which entries are worth a look, at which what is noted is trusted. At the end all are looked at once
+/// more, and each noted answer is tried.
 #[tactic(auto, using(crate::proofs::PendingMarks::marked_falls))]
 fn settle(
     alloc: Global,
@@ -90,6 +92,7 @@ fn settle(
     pending: &mut [bool],
     notes: &mut [Note],
     columns: &mut [Column],
+    turns: &mut Vec<Turn>,
     slots: usize,
 ) -> Result<Option<Found>, AllocError>
     requires plan { IsPlan g.now plan.now }
@@ -100,15 +103,17 @@ fn settle(
     requires notes { length notes.old ≡ length vectors.now }
     requires answers { HaveAnswers slots notes.old }
     requires columns { AreColumns g.now vectors.now columns.old }
+    requires turns { AreTurns (length plan.now) turns.old.items }
     ensures answers { HaveAnswers slots notes.new }
     ensures columns { AreColumns g.now vectors.now columns.new }
+    ensures turns { OnOk result (AreTurns (length plan.now) turns.new.items) }
     ensures found { IfOk result (λ o. IfSome o (λ r. (r.place < length vectors.now) × ((f : List ℤ) → f ≡ slice_index_or vectors.now r.place f → AreRemains g.now vectors.now f r.pieces.items))) }
     ensures closed { IfOk result (λ o. IfNone o (All (λ f. answers g.now vectors.now f ≡ true) vectors.now)) }
 {
     while let Some(place) = next_entry(pending, notes) {
         let f = &vectors[place];
         let note = &mut notes[place];
-        match look(alloc, g, plan, vectors, f, note, columns, true)? {
+        match look_trusting(alloc, g, plan, vectors, f, note, columns, turns)? {
             Some(pieces) => return Ok(Some(Found { place, pieces })),
             None => pending[place] = false,
         }
@@ -155,6 +160,7 @@ fn refine_all(
     plan: &[Vec<u64>],
     entries: &mut Entries,
     columns: &mut [Column],
+    turns: &mut Vec<Turn>,
     slots: usize,
     whole: bool,
 ) -> Result<bool, AllocError>
@@ -163,6 +169,7 @@ fn refine_all(
     requires each { length plan.now ≤ slots }
     requires entries { AreEntries g.now slots entries.old.vectors.items entries.old.pending.items entries.old.notes.items }
     requires columns { AreColumns g.now entries.old.vectors.items columns.old }
+    requires turns { AreTurns (length plan.now) turns.old.items }
     requires covers { Covers g.now entries.old.vectors.items }
     ensures lost { IfOk result (λ b. b ≡ true → IsLost g.now whole) }
     ensures settled { IfOk result (λ b. b ≡ false → IsSettled g.now whole entries.new.vectors.items) }
@@ -178,6 +185,7 @@ fn refine_all(
         &mut entries.pending,
         &mut entries.notes,
         columns,
+        turns,
         slots,
     )? {
         exchange(alloc, g, entries, columns, found.place, found.pieces, slots)?;
@@ -218,7 +226,17 @@ pub fn solve_from(
     let slots = slots_of(&plan);
     let mut entries = entries_of(alloc, g, start, slots)?;
     let mut columns = no_columns(alloc, g.actions().len())?;
-    if refine_all(alloc, g, &plan, &mut entries, &mut columns, slots, whole)? {
+    let mut turns = turns_of(alloc, plan.len())?;
+    if refine_all(
+        alloc,
+        g,
+        &plan,
+        &mut entries,
+        &mut columns,
+        &mut turns,
+        slots,
+        whole,
+    )? {
         return Ok(Attempt::Lost(entries.vectors));
     }
     Ok(Attempt::Held(downset_of(alloc, entries.vectors)?))

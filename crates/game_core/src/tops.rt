@@ -44,13 +44,16 @@ fn find_other(lows: &Vec<Counters>, over: &Vec<usize>, place: usize, gone: usize
     place
 }
 
-/// Points each place elsewhere that points to `gone`, but `gone` itself.
+/// Points each place elsewhere that points to `gone`, but `gone` itself. There is none where `gone` points elsewhere.
 fn leave(lows: &Vec<Counters>, over: &mut Vec<usize>, gone: usize)
     requires flat { IsFlat lows.now.items over.old.items }
     requires gone { gone < length lows.now.items }
     ensures flat { IsFlat lows.now.items over.new.items }
     ensures left { (j : ℕ) → j < length lows.now.items → j ≢ gone → over_at over.new.items j ≢ gone }
 {
+    if over[gone] != gone {
+        return;
+    }
     for i in 0..over.len() {
         if over[i] == gone && i != gone {
             over[i] = find_other(lows, over, i, gone);
@@ -198,7 +201,7 @@ pub fn tops_of(
     ensures within { IfOk result (λ v. All (λ i. i < length lows.now.items) v.items) }
     ensures under { IfOk result (λ v. (u : List ℤ) → under (picked lows.now.items v.items) u ≡ under lows.now.items u) }
 {
-    let mut tops = Vec::new(alloc);
+    let mut tops = Vec::with_capacity(alloc, over.len())?;
     for i in 0..over.len() {
         push_if(&mut tops, i, over[i] == i)?;
     }

@@ -17,6 +17,7 @@ refining-preserved c = (
   c.in_ok-exchange.ensures.entries,
   c.in_ok-exchange.ensures.columns,
   covers_kept c.args.g.now c.known.ensures c.refining.entries.vectors.items c.exchange.new.entries.vectors.items c.refining.invariant.2 c.in_ok-exchange.ensures.keeps,
+  c.in_ok-found.ensures.turns,
 )
 
 pub returns-then-is_lost-clause-lost : goal.returns-then-is_lost-clause-lost
