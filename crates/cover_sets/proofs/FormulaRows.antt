@@ -17,7 +17,7 @@ use Rattle.cover_sets.specs.Bits.{set_of, sets_of}
 use Rattle.cover_sets.specs.Cover.{ArePairs, IsPair, IsRowConsistent, TableData, set_from, table_of}
 use Rattle.cover_sets.specs.Covers.{CoverSets, Row, ascending, both, consistent, contrary, minimal_of, narrow, negations, no_demand, node_at, only, opposites, pairs_with, part_of, products, raw_of, reduced, reduced_row, row_at, rows_after, rows_of, set_row, times, until_raw, with_members, with_two}
 use Rattle.cover_sets.specs.Numbers.{has}
-use Rattle.cover_sets.specs.Union.{AreConsistent, covers_of}
+use Rattle.cover_sets.specs.Union.{AreConsistent, AreDifferent, covers_of}
 use Rattle.cover_sets.proofs.Orders.{range_split}
 use Rattle.cover_sets.proofs.Parts.{part_self}
 use Rattle.cover_sets.proofs.Unions.{err_told}
@@ -312,9 +312,10 @@ pub table_made : (nodes : List Node) (pairs : List (ℕ × ℕ)) (rows : List Ro
 unfolding rows_of
 table_made nodes pairs rows e f = ap (λ rs. made pairs rs) f ∙ ap (λ ps. made ps (rows_after ps [] nodes)) e
 
-pub no_member : (pairs : List (ℕ × ℕ)) (set : ℕ) (rows : List Row) (list : List BitCover) → covers_of list ≡ no_demand ∷ [] → with_members pairs set 0 rows (Some (covers_of list)) ≡ set_row pairs rows set
+pub no_member : (pairs : List (ℕ × ℕ)) (set : ℕ) (rows : List Row) (list : List BitCover) → covers_of list ≡ no_demand ∷ []
+    → (with_members pairs set 0 rows (Some (ascending (covers_of list))) ≡ set_row pairs rows set) × AreDifferent (covers_of list)
 unfolding set_row
-no_member pairs set rows list e = ap (λ cs. with_members pairs set 0 rows (Some cs)) e
+no_member pairs set rows list e = (ap (λ cs. with_members pairs set 0 rows (Some (ascending cs))) e, subst AreDifferent (sym e) (λ m. absurd (omega (arith, m.1)), tt))
 
 pub row_none_told : {T : Type 0} (r : Result T CoverError) (e : CoverError) (P : Type 0) → IsErrAnd r (λ x. x ≡ e) → P → IfErr r (λ x. x ≡ TooWide → P)
 row_none_told r e P h p = err_told r e P h (λ _. p)
@@ -322,14 +323,15 @@ row_none_told r e P h p = err_told r e P h (λ _. p)
 pub times_is : (pairs : List (ℕ × ℕ)) (row : Row) (list xs : List CoverSets) → row ≡ Some xs → times pairs (Some list) row ≡ narrow (reduced pairs (products list xs))
 times_is pairs row list xs e = ap (times pairs (Some list)) e
 
-times_list : (pairs : List (ℕ × ℕ)) (rows : List Row) (n : ℕ) (list now xs : List CoverSets) → row_at rows n ≡ Some xs → now ≡ list → times pairs (Some list) (row_at rows n) ≡ narrow (reduced pairs (products now xs))
-times_list pairs rows n list now xs e f = times_is pairs (row_at rows n) list xs e ∙ ap (λ cs. narrow (reduced pairs (products cs xs))) (sym f)
+times_list : (pairs : List (ℕ × ℕ)) (rows : List Row) (n : ℕ) (list now xs : List CoverSets) → row_at rows n ≡ Some xs → reduced pairs (products list xs) ≡ reduced pairs (products now xs)
+    → times pairs (Some list) (row_at rows n) ≡ narrow (reduced pairs (products now xs))
+times_list pairs rows n list now xs e f = times_is pairs (row_at rows n) list xs e ∙ ap narrow f
 
 pub set_step : (pairs : List (ℕ × ℕ)) (set n : ℕ) (rows : List Row) (list now xs : List CoverSets) (new all : Row) → n < length rows → has set n ≡ true
-    → with_members pairs set n (drop n rows) (Some list) ≡ all → row_at rows n ≡ Some xs → now ≡ list → narrow (reduced pairs (products now xs)) ≡ new
+    → with_members pairs set n (drop n rows) (Some list) ≡ all → row_at rows n ≡ Some xs → reduced pairs (products list xs) ≡ reduced pairs (products now xs) → narrow (reduced pairs (products now xs)) ≡ new
     → with_members pairs set (n + 1) (drop (n + 1) rows) new ≡ all
 set_step pairs set n rows list now xs new all l t h e f g = member_more pairs set n rows (Some list) new all None l t h (times_list pairs rows n list now xs e f ∙ g)
 
 pub set_wide : (pairs : List (ℕ × ℕ)) (set n : ℕ) (rows : List Row) (list now xs : List CoverSets) (all : Row) → n < length rows → has set n ≡ true
-    → with_members pairs set n (drop n rows) (Some list) ≡ all → row_at rows n ≡ Some xs → now ≡ list → narrow (reduced pairs (products now xs)) ≡ None → all ≡ None
+    → with_members pairs set n (drop n rows) (Some list) ≡ all → row_at rows n ≡ Some xs → reduced pairs (products list xs) ≡ reduced pairs (products now xs) → narrow (reduced pairs (products now xs)) ≡ None → all ≡ None
 set_wide pairs set n rows list now xs all l t h e f g = member_wide pairs set n rows (Some list) all None l t h (times_list pairs rows n list now xs e f ∙ g)

@@ -5,4 +5,5 @@ pub mod Orders
 pub mod Parts
 pub mod ReducedLists
 pub mod Unions
+pub mod Unordered
 pub mod Words

@@ -13,7 +13,7 @@ use Rattle.std.proofs.lemmas.List.Elements.{All-cons, All-head, All-tail}
 use Rattle.std.proofs.lemmas.List.Sorted.{Contains-permutation, sum_by-IsPermutation, sorted_far, ranks_by}
 use Rattle.cover_sets.specs.Bits.{size_of}
 use Rattle.cover_sets.specs.Covers.{CoverSets, ascending, cover_cmp, is_minimal, minimal_of, part_of, placed}
-use Rattle.cover_sets.specs.Union.{AreBySize, kept_after, kept_from}
+use Rattle.cover_sets.specs.Union.{AreBySize, AreDifferent, kept_after, kept_from}
 use Rattle.cover_sets.proofs.Parts.{Narrow, cover_cmp_total, part_antisym, part_self, part_trans, part_whole, tied_covers}
 
 abbrev pub IsIn : CoverSets → List CoverSets → Type 0
@@ -220,7 +220,7 @@ pub all_in : (P : CoverSets → Type 0) (xs : List CoverSets) → ((c : CoverSet
 all_in P [] h = λ k d l. absurd (omega arith)
 all_in P (x ∷ xs) h = All-cons P x xs (h x (inl refl)) (all_in P xs (λ c m. h c (inr m)))
 
-narrow_ascending : (cs : List CoverSets) → All Narrow cs → All Narrow (ascending cs)
+pub narrow_ascending : (cs : List CoverSets) → All Narrow cs → All Narrow (ascending cs)
 narrow_ascending cs n = all_in Narrow (ascending cs) (λ c m. in_all Narrow cs c n (ascending_in cs c m))
 
 pub in_ascending : (cs : List CoverSets) → All Narrow cs → (e : CoverSets) → IsIn e cs → IsIn e (ascending cs)
@@ -236,6 +236,14 @@ in_ascending (c ∷ cs) n e m = in_placed c (ascending cs) (All-head Narrow c cs
 abbrev pub AreApart : List CoverSets → Type 0
 AreApart [] = Unit {0}
 AreApart (c ∷ cs) = (IsIn c cs → ⊥) × AreApart cs
+
+pub apart_different : (cs : List CoverSets) → AreApart cs → AreDifferent cs
+apart_different [] a = tt
+apart_different (c ∷ cs) a = (λ m. a.0 (in_contains cs c m), apart_different cs a.1)
+
+pub different_apart : (cs : List CoverSets) → AreDifferent cs → AreApart cs
+different_apart [] a = tt
+different_apart (c ∷ cs) a = (λ m. a.0 (contains_in cs c m), different_apart cs a.1)
 
 pub ascending_length : (cs : List CoverSets) → All Narrow cs → AreApart cs → length (ascending cs) ≡ length cs
 ascending_length [] n a = refl

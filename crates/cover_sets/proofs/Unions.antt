@@ -17,9 +17,9 @@ use Rattle.cover_sets.specs.declared.bit_covers.BitCover.{BitCover}
 use Rattle.cover_sets.specs.declared.reductions.Union.{Union}
 use Rattle.cover_sets.specs.Bits.{set_of, sets_of, signature_of, size_of}
 use Rattle.cover_sets.specs.Covers.{CoverSets, ascending, both, consistent, cover_cmp, narrow, no_demand, part_of, products, reduced}
-use Rattle.cover_sets.specs.Union.{AreBySize, AreConsistent, AreUnions, HaveSizes, all_consistent, clashes, covers_of, kept_after, kept_from, union_at, unions_with}
+use Rattle.cover_sets.specs.Union.{AreBySize, AreConsistent, AreDifferent, AreUnions, HaveSizes, all_consistent, clashes, covers_of, kept_after, kept_from, union_at, unions_with}
 use Rattle.cover_sets.proofs.Consistent.{consistent_union}
-use Rattle.cover_sets.proofs.Members.{IsIn, IsAscending, Keeps, all_in, apart_permuted, ascending_ascends, ascending_in, ascending_length, by_size, in_all, in_at, in_ascending, in_permuted, filter_from, kept_grows, kept_reduced, keeps_more, sorted_ascends}
+use Rattle.cover_sets.proofs.Members.{AreApart, IsIn, IsAscending, Keeps, all_in, apart_different, apart_permuted, different_apart, ascending_ascends, ascending_in, ascending_length, by_size, in_all, in_at, in_ascending, in_permuted, filter_from, kept_grows, kept_reduced, keeps_more, same_ascending, sorted_ascends}
 use Rattle.cover_sets.proofs.Parts.{Narrow, kept_narrow, part_signature}
 
 -- ---- the search for a part
@@ -166,7 +166,7 @@ narrow_covers xs = All-map Narrow sets_of xs (λ k d l. kept_narrow (get_or xs k
 narrow_row : (x : CoverSets) (ys : List CoverSets) → Narrow x → All Narrow ys → All Narrow (map (both x) ys)
 narrow_row x ys n m = All-map Narrow (both x) ys (λ k d l. narrow_both x (get_or ys k d) n (m k d l))
 
-narrow_products : (xs ys : List CoverSets) → All Narrow xs → All Narrow ys → All Narrow (products xs ys)
+pub narrow_products : (xs ys : List CoverSets) → All Narrow xs → All Narrow ys → All Narrow (products xs ys)
 narrow_products [] ys n m = All-nil Narrow
 narrow_products (x ∷ xs) ys n m = All-append Narrow (map (both x) ys) (products xs ys) (narrow_row x ys (All-head Narrow x xs n) m) (narrow_products xs ys (All-tail Narrow x xs n) m)
 
@@ -242,41 +242,43 @@ module _ (pairs : List (ℕ × ℕ)) (xs ys : List BitCover) (us : List CoverSet
       only_in d (inl n) = absurd n
       only_in d (inr n) = n
 
-  pub product_wide : 1024 < length (kept_from [] us) → narrow (reduced pairs (products (covers_of xs) (covers_of ys))) ≡ None
-  product_wide l =
-      let k : List CoverSets = kept_from [] us in
-      let e : reduced pairs (products (covers_of xs) (covers_of ys)) ≡ ascending (kept_from [] us) =
-      reduced_is (ascending (kept_from [] us)) (ascending_ascends (kept_from [] us)) (λ c m. in_ascending (kept_from [] us) narrow_kept c m) (λ c m. ascending_in (kept_from [] us) c m) in
-      let f : length (ascending (kept_from [] us)) ≡ length (kept_from [] us) = ascending_length (kept_from [] us) narrow_kept (all_keeps us size).once in
-      ap narrow e ∙ row_wide (ascending (kept_from [] us)) (omega arith)
+  reduced_kept : reduced pairs (products (covers_of xs) (covers_of ys)) ≡ ascending (kept_from [] us)
+  reduced_kept =
+      reduced_is (ascending (kept_from [] us)) (ascending_ascends (kept_from [] us)) (λ c m. in_ascending (kept_from [] us) narrow_kept c m) (λ c m. ascending_in (kept_from [] us) c m)
 
-  pub product_found : (kept list : List BitCover) → covers_of kept ≡ kept_from [] us → IsPermutation kept list → IsSorted (λ a b. cover_cmp (sets_of a) (sets_of b)) list → length kept ≤ 1024
-      → (narrow (reduced pairs (products (covers_of xs) (covers_of ys))) ≡ Some (covers_of list)) × (length list ≤ 1024) × AreConsistent pairs list
-  product_found kept list k p s l = (
-    ap narrow is ∙ row_narrow (covers_of list) (omega (arith, few, length-map list sets_of)),
-    few,
-    λ i d h. (filter_from (λ c. consistent pairs c.literals) (products (covers_of xs) (covers_of ys)) (sets_of (get_or list i d)) (to_raw _ (inner (sets_of (get_or list i d)) (subst (λ x. IsIn x (covers_of list)) (get_or-map sets_of list i d (sets_of d) h) (in_at (covers_of list) i (sets_of d) (omega (arith, length-map list sets_of))))))).1,
+  kept_length : length (ascending (kept_from [] us)) ≡ length (kept_from [] us)
+  kept_length = ascending_length (kept_from [] us) narrow_kept (all_keeps us size).once
+
+  pub product_wide : 1024 < length (kept_from [] us) → narrow (reduced pairs (products (covers_of xs) (covers_of ys))) ≡ None
+  product_wide l = ap narrow reduced_kept ∙ row_wide (ascending (kept_from [] us)) (omega (arith, kept_length))
+
+  pub product_found : (kept : List BitCover) → covers_of kept ≡ kept_from [] us → length kept ≤ 1024
+      → (narrow (reduced pairs (products (covers_of xs) (covers_of ys))) ≡ Some (ascending (covers_of kept))) × AreDifferent (covers_of kept) × AreConsistent pairs kept
+  product_found kept k l = (
+    ap narrow reduced_kept ∙ row_narrow (ascending (kept_from [] us)) (omega (arith, kept_length, ap length k, length-map kept sets_of)) ∙ ap (λ cs. Some (ascending cs)) (sym k),
+    apart_different (covers_of kept) (subst AreApart (sym k) (all_keeps us size).once),
+    λ i d h. (filter_from (λ c. consistent pairs c.literals) (products (covers_of xs) (covers_of ys)) (sets_of (get_or kept i d)) (to_raw _ (inner (sets_of (get_or kept i d)) (subst (λ x. IsIn x (covers_of kept)) (get_or-map sets_of kept i d (sets_of d) h) (in_at (covers_of kept) i (sets_of d) (omega (arith, length-map kept sets_of))))))).1,
   )
     where
-      few : length list ≤ 1024
-      few = omega (arith, length_permutation kept list p)
-
-      moved : IsPermutation (kept_from [] us) (covers_of list)
-      moved = subst (λ ks. IsPermutation ks (covers_of list)) k (IsPermutation-map sets_of kept list p)
-
       only_in : (d : CoverSets) → ⊥ ⊎ IsIn d us → IsIn d us
       only_in d (inl n) = absurd n
       only_in d (inr n) = n
 
-      inner : (c : CoverSets) → IsIn c (covers_of list) → IsIn c us
-      inner c m = only_in c ((all_keeps us size).from c (in_permuted (covers_of list) (kept_from [] us) c (IsPermutation-sym (kept_from [] us) (covers_of list) moved) m))
+      inner : (c : CoverSets) → IsIn c (covers_of kept) → IsIn c us
+      inner c m = only_in c ((all_keeps us size).from c (subst (IsIn c) k m))
 
-      ascends : IsAscending (covers_of list)
-      ascends = sorted_ascends (covers_of list) (narrow_covers list) (apart_permuted (kept_from [] us) (covers_of list) moved (all_keeps us size).once) (sorted_sets list s)
-
-      is : reduced pairs (products (covers_of xs) (covers_of ys)) ≡ covers_of list
-      is = reduced_is (covers_of list) ascends (λ c m. in_permuted (kept_from [] us) (covers_of list) c moved m)
-          (λ c m. in_permuted (covers_of list) (kept_from [] us) c (IsPermutation-sym (kept_from [] us) (covers_of list) moved) m)
+-- the covers that a sort gives are those in their order
+pub sorted_is : (old new : List BitCover) → AreDifferent (covers_of old) → IsPermutation old new → IsSorted (λ a b. cover_cmp (sets_of a) (sets_of b)) new
+    → covers_of new ≡ ascending (covers_of old)
+sorted_is old new d p s =
+    same_ascending (covers_of new) (ascending (covers_of old))
+    (sorted_ascends (covers_of new) (narrow_covers new) (apart_permuted (covers_of old) (covers_of new) moved (different_apart (covers_of old) d)) (sorted_sets new s))
+    (ascending_ascends (covers_of old))
+    (λ c m. in_ascending (covers_of old) (narrow_covers old) c (in_permuted (covers_of new) (covers_of old) c (IsPermutation-sym (covers_of old) (covers_of new) moved) m))
+    (λ c m. in_permuted (covers_of old) (covers_of new) c moved (ascending_in (covers_of old) c m))
+  where
+    moved : IsPermutation (covers_of old) (covers_of new)
+    moved = IsPermutation-map sets_of old new p
 
 -- the next union
 pub union_next : (xs ys : List BitCover) (us : List Union) (i : ℕ) (x y : BitCover) (cover : CoverSets) (d : Union) → i < length us → AreUnions (length xs) (length ys) us

@@ -1,6 +1,6 @@
 -- Unions of covers, and the covers that are kept among them.
 use Rattle.std.specs.Prelude.{◌≡◌, ℕ, ◌<◌, true, Bool, ◌&&◌, ◌||◌, if◌then◌else◌, List, [], ◌∷◌, ◌++◌, All, fold, map, slice_index_or}
-use Rattle.std.specs.List.{filter, list_any}
+use Rattle.std.specs.List.{Contains, filter, list_any}
 use Rattle.std.specs.List.Sorted.{IsNonDecreasingBy}
 use Rattle.cover_sets.specs.declared.bit_covers.BitCover.{BitCover}
 use Rattle.cover_sets.specs.declared.reductions.Union.{Union}
@@ -43,6 +43,11 @@ AreBySize list = IsNonDecreasingBy size_of list
 -- a cover is kept where it contains none that was kept
 abbrev pub kept_after : List CoverSets → CoverSets → List CoverSets
 kept_after kept c = if list_any (λ k. part_of k c) kept then kept else kept ++ c ∷ []
+
+-- each cover once
+abbrev pub AreDifferent : List CoverSets → Type 0
+AreDifferent [] = Unit {0}
+AreDifferent (c ∷ cs) = (Contains cs c → ⊥) × AreDifferent cs
 
 unfoldable pub kept_from : List CoverSets → List CoverSets → List CoverSets
 kept_from kept list = fold kept_after kept list

@@ -2,13 +2,13 @@
 
 ghost use Rattle.std.specs.Prelude.{◌≡◌, ◌<◌, ◌≤◌, ◌+◌, ◌++◌, ◌^◌, ℕ, true, not, ◌&&◌, nat_eq, bit_and, length, map, All, IfOk, IfErr, OnOk, Some, None};
 ghost use Rattle.std.specs.List.{filter, list_any};
-ghost use Rattle.std.specs.List.Sorted.{IsPermutation, IsSorted};
+ghost use Rattle.std.specs.List.Sorted.{IsPermutation};
 ghost use Rattle.cover_sets.specs.declared.cover_lists.CoverError.TheVariants.{TooWide, Memory};
 ghost use Rattle.cover_sets.specs.Bits.{set_of, sets_of, signature_of};
 ghost use Rattle.cover_sets.specs.Cover.{ArePairs};
-ghost use Rattle.cover_sets.specs.Covers.{cover_cmp, narrow, part_of, products, reduced};
+ghost use Rattle.cover_sets.specs.Covers.{ascending, narrow, part_of, products, reduced};
 ghost use Rattle.cover_sets.specs.Numbers.{has};
-ghost use Rattle.cover_sets.specs.Union.{all_consistent, AreBySize, AreConsistent, AreUnions, clashes, covers_of, HaveSizes, kept_after, union_at, unions_with};
+ghost use Rattle.cover_sets.specs.Union.{all_consistent, AreBySize, AreConsistent, AreDifferent, AreUnions, clashes, covers_of, HaveSizes, kept_after, union_at, unions_with};
 
 use crate::bit_covers::BitCover;
 use crate::cover_lists::CoverError;
@@ -28,8 +28,7 @@ struct Union {
 
 /// The reduced list of the unions of each of `xs` with each of `ys`.
 ///
-/// `opposites` are the pairs of a literal and its negation. Smaller unions come first, so that
-/// what was kept is never dropped again.
+/// `opposites` are the pairs of a literal and its negation.
 pub fn product(
     alloc: Global,
     opposites: &[(u32, u32)],
@@ -46,16 +45,41 @@ pub fn product(
     ensures narrow { IfOk result (λ list. length list.items ≤ 1024) }
     ensures consistent { IfOk result (λ list. AreConsistent opposites.now list.items) }
 {
+    let list = minimal_unions(alloc, opposites, xs, ys)?;
+    Ok(ordered(list)?)
+}
+
+/// The covers of the reduced list of the unions of each of `xs` with each of `ys`, in any order.
+///
+/// Smaller unions come first, so that what was kept is never dropped again.
+pub fn minimal_unions(
+    alloc: Global,
+    opposites: &[(u32, u32)],
+    xs: &[BitCover],
+    ys: &[BitCover],
+) -> Result<Vec<BitCover>, CoverError>
+    requires pairs { ArePairs opposites.now }
+    requires left { length xs.now ≤ 2048 }
+    requires right { length ys.now ≤ 2048 }
+    requires xs { AreConsistent opposites.now xs.now }
+    requires ys { AreConsistent opposites.now ys.now }
+    ensures value { IfOk result (λ list. narrow (reduced opposites.now (products (covers_of xs.now) (covers_of ys.now))) ≡ Some (ascending (covers_of list.items))) }
+    ensures different { IfOk result (λ list. AreDifferent (covers_of list.items)) }
+    ensures wide { IfErr result (λ e. e ≡ TooWide → narrow (reduced opposites.now (products (covers_of xs.now) (covers_of ys.now))) ≡ None) }
+    ensures narrow { IfOk result (λ list. length list.items ≤ 1024) }
+    ensures consistent { IfOk result (λ list. AreConsistent opposites.now list.items) }
+{
     let unions = unions_of(alloc, opposites, xs, ys)?;
+    let room = xs.len().max(ys.len());
     let mut kept = Kept {
-        covers: Vec::new(alloc),
-        signatures: Vec::new(alloc),
+        covers: Vec::with_capacity(alloc, room)?,
+        signatures: Vec::with_capacity(alloc, room)?,
     };
     for union in &unions {
         let cover = xs[union.left as usize].join(&ys[union.right as usize]);
         kept.offer(&cover)?;
     }
-    Ok(ordered(kept.covers)?)
+    Ok(kept.covers)
 }
 
 /// The reduced list of these covers.
@@ -91,7 +115,7 @@ fn unions_of(
     ensures all { IfOk result (λ unions. IsPermutation (all_consistent opposites.now (products (covers_of xs.now) (covers_of ys.now))) (map (union_at (covers_of xs.now) (covers_of ys.now)) unions.items)) }
     ensures order { IfOk result (λ unions. AreBySize (map (union_at (covers_of xs.now) (covers_of ys.now)) unions.items)) }
 {
-    let mut unions = Vec::new(alloc);
+    let mut unions = Vec::with_capacity(alloc, WIDEST.min(xs.len() * ys.len()))?;
     for left in 0..xs.len() {
         add_unions(&mut unions, opposites, xs, left, ys)?;
     }
@@ -205,9 +229,10 @@ impl Kept {
 }
 
 /// The covers in their order.
-fn ordered(mut covers: Vec<BitCover>) -> Result<Vec<BitCover>, AllocError>
+pub fn ordered(mut covers: Vec<BitCover>) -> Result<Vec<BitCover>, AllocError>
+    requires { AreDifferent (covers_of covers.items) }
     ensures all { IfOk result (λ list. IsPermutation covers.items list.items) }
-    ensures order { IfOk result (λ list. IsSorted (λ a b. cover_cmp (sets_of a) (sets_of b)) list.items) }
+    ensures value { IfOk result (λ list. covers_of list.items ≡ ascending (covers_of covers.items)) }
 {
     covers.sort_by(|a, b| a.compare(b))?;
     Ok(covers)

@@ -12,7 +12,7 @@ ghost use Rattle.ltl_form.specs.Normal.{IsNodeAt};
 use crate::bit_covers::BitCover;
 use crate::cover_lists::CoverError;
 use crate::number_sets::NumberSet;
-use crate::reductions::{product, reduced_list};
+use crate::reductions::{minimal_unions, ordered, product, reduced_list};
 use crate::rows::Row;
 use ltl_form::{Node, Normal};
 use std::alloc::{AllocError, Global};
@@ -74,10 +74,10 @@ fn list_of_set(
     for n in 0..rows.len() {
         if set.contains(n as u32) {
             let row = covers_at(opposites, rows, n as u32)?;
-            list = product(alloc, opposites, &list, row)?;
+            list = minimal_unions(alloc, opposites, &list, row)?;
         }
     }
-    Ok(list)
+    Ok(ordered(list)?)
 }
 
 /// The rows of all formulas, where these are the pairs of a literal and its negation.

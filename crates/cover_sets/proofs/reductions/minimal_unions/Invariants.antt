@@ -1,7 +1,7 @@
 use Rattle.std.proofs.Common.{◌≡◌, ◌≤◌, [], length, map, drop}
 use Rattle.cover_sets.specs.Bits.{signature_of}
 use Rattle.cover_sets.specs.Union.{covers_of, kept_from, union_at}
-use Rattle.cover_sets.proofs.reductions.product.Given as goal
+use Rattle.cover_sets.proofs.reductions.minimal_unions.Given as goal
 
 abbrev pub invariant-loop-union : goal.invariant-loop-union
 invariant-loop-union l =
