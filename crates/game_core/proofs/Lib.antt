@@ -21,6 +21,7 @@ pub mod Orders
 pub mod PendingMarks
 pub mod Pieces
 pub mod Places
+pub mod Remaining
 pub mod Replacements
 pub mod Replayed
 pub mod Runs

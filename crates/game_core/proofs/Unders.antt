@@ -1,10 +1,10 @@
 -- What lists of vectors are at or above, as vectors are added to them.
-use Rattle.std.proofs.Common.{◌≡◌, ℕ, zero, suc, ◌+◌, ◌<◌, Bool, true, false, not, ◌&&◌, ◌||◌, cond, List, [], ◌∷◌, ◌++◌, length, take, refl, sym, ◌∙◌, ap, subst, arith, Option, Some, None, IfSome, IfNone, is_some}
+use Rattle.std.proofs.Common.{◌≡◌, ℕ, zero, suc, ◌+◌, ◌<◌, Bool, true, false, not, ◌&&◌, ◌||◌, cond, List, [], ◌∷◌, length, take, refl, sym, ◌∙◌, ap, subst, arith, Option, Some, None, IfSome, IfNone, is_some}
 use Rattle.std.specs.Prelude.{ℤ, Vec, slice_index_or}
-use Rattle.std.specs.List.{All, AllPairs, Contains, filter, list_any, list_all}
+use Rattle.std.specs.List.{All, AllPairs, Contains, filter, insert, list_any, list_all}
 use Rattle.std.specs.declared.alloc.Global.{Global}
 use Rattle.std.proofs.lemmas.List.Elements.{All-nil, All-cons, All-filter}
-use Rattle.std.proofs.lemmas.List.Folds.{list_any-append, list_any_more, list_all_more, list_all_at, list_any_none, list_any_at}
+use Rattle.std.proofs.lemmas.List.Folds.{list_any_more, list_all_more, list_all_at, list_any_none, list_any_at}
 use Rattle.std.proofs.lemmas.List.Kept.{AllPairs-cons, AllPairs-filter}
 use Rattle.antichain_list.specs.Covering.{covered-trans, covered-without_below}
 use Rattle.counter_vec.specs.Counters.{at_or_below, lexicographic}
@@ -36,10 +36,6 @@ and_assoc : (a b c : Bool) → ((a && b) && c) ≡ (a && (b && c))
 and_assoc true b c = refl
 and_assoc false b c = refl
 
--- one more vector behind the others
-pub under_push : (u : List ℤ) (xs : List (List ℤ)) (x : List ℤ) → under (xs ++ x ∷ []) u ≡ (under xs u || at_or_below u x)
-under_push u xs x = list_any-append (λ e. at_or_below u e) xs (x ∷ []) ∙ ap (λ b. under xs u || b) (or_false (at_or_below u x))
-
 -- a vector that is under the list adds nothing
 pub under_absorbs : (u v : List ℤ) (xs : List (List ℤ)) → under xs v ≡ true → under xs u ≡ (under xs u || at_or_below u v)
 under_absorbs u v xs h = go (at_or_below u v) refl
@@ -48,7 +44,11 @@ under_absorbs u v xs h = go (at_or_below u v) refl
     go false e = sym (or_false (under xs u))
     go true e = covered-trans at_or_below lexicographic counters_order u v xs e h ∙ sym (or_true (under xs u))
 
--- a vector takes the place of those at or below it
+-- a vector in front of the others, without those at or below it
+pub fronted : (p : List ℤ) (old kept new : List (List ℤ)) → kept ≡ filter (λ x. not (at_or_below x p)) old → new ≡ insert kept 0 p
+    → new ≡ p ∷ filter (λ x. not (at_or_below x p)) old
+fronted p old kept new h k = k ∙ ap (λ xs. insert xs 0 p) h
+
 pub under_replaced : (u p : List ℤ) (xs : List (List ℤ)) → under (p ∷ filter (λ x. not (at_or_below x p)) xs) u ≡ (under xs u || at_or_below u p)
 under_replaced u p xs = covered-without_below at_or_below lexicographic counters_order u p xs ∙ or_comm (at_or_below u p) (under xs u)
 

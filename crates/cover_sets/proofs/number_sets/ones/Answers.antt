@@ -1,4 +1,4 @@
-use Rattle.std.proofs.Common.{arith, ap, ◌∙◌}
+use Rattle.std.proofs.Common.{arith}
 use Rattle.cover_sets.proofs.Words.{no_ones}
 use Rattle.cover_sets.proofs.number_sets.ones.Goals as goal
 
