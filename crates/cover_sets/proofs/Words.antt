@@ -271,9 +271,6 @@ meet_end xs ys i shared all f g l h =
     alone true = refl
     alone false = refl
 
-pub no_ones : (word : ℕ) → word ≡ 0 → 0 ≡ count_ones word
-no_ones word e = let z : count_ones 0 ≤ 0 = ones_le_self 0 in sym (omega arith) ∙ ap count_ones (sym e)
-
 pub size_end : (xs ys : List ℕ) (i size all : ℕ) → length xs ≡ 8 → length ys ≡ 8 → 8 ≤ i
     → size + count_ones (bit_or (joined (drop i xs)) (joined (drop i ys))) ≡ all → size ≡ all
 size_end xs ys i size all f g l h =

@@ -167,9 +167,5 @@ fn ones(word: u64) -> u32
     ensures value { result ≡ count_ones word }
     ensures small { result ≤ 64 }
 {
-    // Most words of a set are empty, and counting takes longer than to see that.
-    if word == 0 {
-        return 0;
-    }
     word.count_ones()
 }
